@@ -1,0 +1,41 @@
+-- Page twelve for the judgement: its answer depends neither on the order of the triangles nor on where each turn begins. And it is the original's answer.
+use Prim.Native.Nat.{ℕ}
+use mathlib.Core.Path.{_≡_, refl, sym, _∙_}
+use mathlib.Core.Logic.{_↔_}
+use mathlib.Core.Bool.{Bool, true, false, false≢true}
+use mathlib.Core.List.{List}
+use Rattle.surface.specs.Triangle.{triangles}
+use Rattle.surface.specs.Closed.{Manifold, Closed}
+use Rattle.surface.specs.Euler.{Below}
+use Rattle.surface.specs.Original.{originalClosed}
+use Rattle.surface.specs.PageTwelve.{Relisted}
+use Rattle.surface.proofs.PageTwelve.{page-twelve}
+use Rattle.surface.proofs.Original.{original-iff}
+use Rattle.closing.specs.Closing.{Decided, ClosedDecided}
+
+-- two tests that are passed together give one answer
+same-answer : (r s : Bool) → ((r ≡ true) ↔ (s ≡ true)) → r ≡ s
+same-answer true true e = refl
+same-answer true false e = absurd (false≢true (e .0 refl))
+same-answer false true e = absurd (false≢true (e .1 refl))
+same-answer false false e = refl
+
+module _ {c d : List ℕ} (relisted : Relisted (triangles c) (triangles d)) {p q : ℕ} {w w′ x x′ : List ℕ} {r s : Bool} where
+  pub decided-order : Decided c p w w′ r → Decided d q x x′ s → r ≡ s
+  decided-order h k =
+      let t = page-twelve relisted in
+      same-answer r s (
+        (λ e. let m = h .decides .0 e in k .decides .1 (record { paired = t .paired .0 (m .paired); ringed = t .ringed .0 (m .ringed) })),
+        λ e. let m = k .decides .0 e in h .decides .1 (record { paired = t .paired .1 (m .paired); ringed = t .ringed .1 (m .ringed) }),
+      )
+
+  pub closed-order : ClosedDecided c p w w′ r → ClosedDecided d q x x′ s → r ≡ s
+  closed-order h k =
+      let t = page-twelve relisted in
+      same-answer r s ((λ e. k .decides .1 (t .closed .0 (h .decides .0 e))), λ e. h .decides .1 (t .closed .1 (k .decides .0 e)))
+
+-- the answer of the Rust's `closed_oriented_manifold`, where document 01's order of questions reaches it: every corner is on the list
+pub original-answer : {c : List ℕ} {p : ℕ} {w w′ : List ℕ} {r : Bool} → Below p (triangles c) → Decided c p w w′ r → r ≡ originalClosed (triangles c) p
+original-answer {c} {p} {r = r} below h =
+    let o = original-iff (triangles c) p below in
+    same-answer r (originalClosed (triangles c) p) ((λ e. o .1 (h .decides .0 e)), λ e. h .decides .1 (o .0 e))

@@ -1,0 +1,78 @@
+-- From stage to stage of the whole check.
+use Prim.Native.Nat.{ℕ, _+_, _-_, _≤_, _<_}
+use mathlib.Core.Path.{_≡_, refl, sym, ap, _∙_, subst}
+use mathlib.Core.Bool.{Bool, true, false}
+use mathlib.Core.List.{List, _++_}
+use native.Mathlib.Omega.{arith}
+use lib.Dec.{ltb}
+use lib.ListN.{length, drop, replicate, length-replicate, getD-replicate, List·getD-append}
+use lib.Seq.{drop-drop, drop-at}
+use borrow.Author.Tests.{ltb-true, ltb-false}
+use Rattle.places.specs.Place.{at, Sized}
+use Rattle.places.proofs.Fine.{Fine, fine-of, rounded-of, fine-unused, unused-past}
+use Rattle.places.proofs.Steps.{length-pl}
+use Rattle.places.proofs.Whole.{Enough}
+use Rattle.closing.specs.Closing.{needed, Lent}
+use Rattle.closing.specs.Stages.{used, Chained, Ready, AllJudged, Settled}
+
+pub zero-at : (n i : ℕ) (w t : List ℕ) → w ≡ replicate n 0 ++ t → i < n → at w i ≡ 0
+zero-at n i w t e l =
+    ap (λ (x : List ℕ). at x i) e
+    ∙ List·getD-append (replicate n 0) t 0 i (subst (λ (k : ℕ). i < k) (sym (length-replicate n 0)) l)
+    ∙ getD-replicate n i 0 0 l
+
+-- what is equal from u on is equal from m on
+pub far-on : (u m : ℕ) (a b : List ℕ) → u ≤ m → drop u a ≡ drop u b → drop m a ≡ drop m b
+far-on u m a b h e =
+    let z : u + (m - u) ≡ m = omega arith in
+    subst (λ (k : ℕ). drop k a ≡ drop k b) z (sym (drop-drop (m - u) u a) ∙ ap (drop (m - u)) e ∙ drop-drop (m - u) u b)
+
+-- past the cleared words
+pub far-clear : (n : ℕ) (w d : List ℕ) → w ≡ replicate n 0 ++ drop n d → drop n w ≡ drop n d
+far-clear n w d e = ap (drop n) e ∙ drop-at (replicate n 0) (drop n d) n (length-replicate n 0)
+
+module _ (c : List ℕ) (p : ℕ) (w₀ : List ℕ) (given : Lent c p w₀) where
+  pub sized-first : (w : List ℕ) → length w ≡ length w₀ → Sized c p w
+  sized-first w e = record {
+    thirds = given .thirds;
+    few = given .few;
+    points = given .points;
+    below = given .below;
+    room = omega (arith, given .room, given .thirds);
+  }
+
+  pub ready-first : (w₁ w₂ : List ℕ) → w₁ ≡ replicate (p + p + p) 0 ++ drop (p + p + p) w₀ → length w₁ ≡ length w₀ → length w₂ ≡ length w₁ → Chained c p w₁ w₂ → Ready c p w₂ 0
+  ready-first w₁ w₂ e l₁ l₂ h =
+      record {
+        sized = sized-first w₂ (l₂ ∙ l₁);
+        linked = h .linked;
+        stamped = λ x l. omega (arith, h .stamps x l, zero-at (p + p + p) (p + x + x) w₁ (drop (p + p + p) w₀) e (omega arith));
+      }
+
+  all-fine : ((v : ℕ) → v < p → Fine c v) → (v : ℕ) → Fine c v
+  all-fine h v = go (ltb v p) refl
+    where
+      go : (b : Bool) → ltb v p ≡ b → Fine c v
+      go true e = h v (ltb-true v p e)
+      go false e = fine-unused c v (unused-past c v p (given .below) (ltb-false v p e))
+
+  all-enough : (m : ℕ) → ((v : ℕ) → v < p → Enough c m v) → (v : ℕ) → Enough c m v
+  all-enough m h v = go (ltb v p) refl
+    where
+      go : (b : Bool) → ltb v p ≡ b → Enough c m v
+      go true e = h v (ltb-true v p e)
+      go false e = λ q. absurd (omega (arith, q, length-pl c v (length c), unused-past c v p (given .below) (ltb-false v p e)))
+
+  pub settled : (m : ℕ) (w₁ w₂ w₃ w₄ : List ℕ) (r : Bool) (n : ℕ) → w₁ ≡ replicate (p + p + p) 0 ++ drop (p + p + p) w₀ → Chained c p w₁ w₂ → AllJudged c p m w₂ w₃ r → n ≡ needed c p → w₄ ≡ replicate n 0 ++ drop n w₃ → Settled c p m w₀ w₄ r
+  settled m w₁ w₂ w₃ w₄ r n e₁ chained judged en e₄ =
+      let far : drop (used c p) w₃ ≡ drop (used c p) w₀ = judged .far ∙ chained .far ∙ far-on (p + p + p) (used c p) w₁ w₀ (omega arith) (far-clear (p + p + p) w₁ w₀ e₁) in
+      record {
+        yea = λ q. rounded-of c (given .thirds) (all-fine (judged .yea q));
+        more = λ q. all-enough m (judged .more q);
+        nay = λ h e. answer r refl (fine-of c (given .thirds) h) e;
+        zeroed = e₄ ∙ ap (λ (k : ℕ). replicate k 0 ++ drop k w₃) en ∙ ap (λ (t : List ℕ). replicate (needed c p) 0 ++ t) (far-on (used c p) (needed c p) w₃ w₀ (omega (arith, given .thirds)) far);
+      }
+    where
+      answer : (b : Bool) → r ≡ b → ((v : ℕ) → Fine c v) → ((v : ℕ) → Enough c m v) → r ≡ true
+      answer true q f e = q
+      answer false q f e = absurd (judged .nay q f e)

@@ -1,0 +1,194 @@
+// The judgement of closedness over lent work words, in time linear in the triangles and the points.
+// The places of each corner are chained; at each corner v the step of each of its triangles, from x to y, is noted under x with a stamp of v. The x's differ where no directed side occurs twice,
+// and following the notes leads through all of them and back where every reverse is there and the triangles are one ring.
+// The work words: from 0 on a head for each point, from points on a stamp and a note for each point, from 3 * points on a link for each place of the corner list.
+use places::after;
+use places::before;
+use places::wide;
+ghost use mathlib.Core.Path.{_≡_};
+ghost use mathlib.Core.Bool.{true, false};
+ghost use mathlib.Core.List.{_++_};
+ghost use Prim.Native.Nat.{ℕ, _+_, _%_, _<_, _≤_};
+ghost use lib.ListN.{length, drop, replicate};
+ghost use Rattle.places.specs.Place.{at, hopTo, trip, Sized, Inside};
+ghost use Rattle.closing.specs.Closing.{Lent, Decided, ClosedDecided};
+ghost use Rattle.closing.specs.Stages.{Chained, Ready, Entered, Judged, AllJudged, Settled, Told};
+
+// The first count words become 0.
+pub fn clear(work: &mut [u32], count: usize)
+    requires { ⌜ count ≤ length (now work) ⌝ }
+    ensures { λ _. ⌜ now (work .exit) ≡ replicate count 0 ++ drop count (now (work .entry)) ⌝ }
+{
+    let mut i: usize = 0;
+    while i < count {
+        work[i] = 0;
+        i += 1;
+    }
+}
+
+// Chains the places that name a corner: its head is one more than the last such place, and a place's link one more than the one before it.
+pub fn link_corners(corners: &[u32], points: usize, work: &mut [u32])
+    requires { ⌜ Sized (now corners) points (now work) ⌝ }
+    requires { ⌜ ((v : ℕ) → v < points → at (now work) v ≡ 0) ⌝ }
+    ensures { λ _. ⌜ Chained (now (corners .entry)) points (now (work .entry)) (now (work .exit)) ⌝ }
+{
+    let mut k: usize = 0;
+    while k < corners.len() {
+        let v = wide(corners[k]);
+        work[points + points + points + k] = work[v];
+        k += 1;
+        work[v] = k as u32;
+    }
+}
+
+// Notes the step of each place of v under the corner that it leaves. The number of places, or 0 where two leave one corner.
+fn note_steps(corners: &[u32], points: usize, v: usize, work: &mut [u32]) -> usize
+    requires { ⌜ Ready (now corners) points (now work) v ⌝ }
+    requires { ⌜ (v < points) × (0 < at (now work) v) ⌝ }
+    ensures { λ r. ⌜ Entered (now (corners .entry)) points v (now (work .entry)) (now (work .exit)) r ⌝ }
+{
+    let mut p = wide(work[v]);
+    let mut count: usize = 0;
+    while p > 0 {
+        let k = p - 1;
+        let x = wide(corners[after(k)]);
+        let slot = points + x + x;
+        if wide(work[slot]) == v + 1 {
+            return 0;
+        }
+        work[slot] = (v + 1) as u32;
+        work[slot + 1] = corners[before(k)];
+        count += 1;
+        p = wide(work[points + points + points + k]);
+    }
+    count
+}
+
+// One more than the corner that follows x around v; 0 where there is none.
+fn hop(points: usize, v: usize, work: &[u32], x: usize) -> usize
+    requires { ⌜ Inside points v (now work) ⌝ }
+    requires { ⌜ (v < points) × (x < points) ⌝ }
+    ensures { λ r. ⌜ r ≡ hopTo points v (now (work .entry)) x ⌝ }
+{
+    let slot = points + x + x;
+    if wide(work[slot]) == v + 1 {
+        let next = slot + 1;
+        wide(work[next]) + 1
+    } else {
+        0
+    }
+}
+
+// Whether the hops from the corner first come back to it after count hops, and not before.
+fn walk_ring(points: usize, v: usize, work: &[u32], first: usize, count: usize) -> bool
+    requires { ⌜ Inside points v (now work) ⌝ }
+    requires { ⌜ (v < points) × (first < points) ⌝ }
+    ensures { λ r. ⌜ r ≡ trip (hopTo points v (now (work .entry))) first count first ⌝ }
+{
+    let mut x = first;
+    let mut left = count;
+    while left > 0 {
+        let m = hop(points, v, work, x);
+        if m == 0 {
+            return false;
+        }
+        x = m - 1;
+        left -= 1;
+        if x == first {
+            return left == 0;
+        }
+    }
+    false
+}
+
+// Whether v is not in use, or the steps around v are one ring of at least least steps, with no two from one corner.
+fn corner_ringed(corners: &[u32], points: usize, least: usize, v: usize, work: &mut [u32]) -> bool
+    requires { ⌜ Ready (now corners) points (now work) v ⌝ }
+    requires { ⌜ (v < points) × (0 < least) ⌝ }
+    ensures { λ r. ⌜ Judged (now (corners .entry)) points least v (now (work .entry)) (now (work .exit)) r ⌝ }
+{
+    let p = wide(work[v]);
+    if p == 0 {
+        return true; // unused
+    }
+    let first = wide(corners[after(p - 1)]);
+    let count = note_steps(corners, points, v, work);
+    if count < least {
+        return false;
+    }
+    walk_ring(points, v, work, first, count)
+}
+
+fn corners_ringed(corners: &[u32], points: usize, least: usize, work: &mut [u32]) -> bool
+    requires { ⌜ Ready (now corners) points (now work) 0 ⌝ }
+    requires { ⌜ 0 < least ⌝ }
+    ensures { λ r. ⌜ AllJudged (now (corners .entry)) points least (now (work .entry)) (now (work .exit)) r ⌝ }
+{
+    let mut v: usize = 0;
+    while v < points {
+        if corner_ringed(corners, points, least, v, work) {
+            v += 1;
+        } else {
+            return false; // v fails
+        }
+    }
+    true
+}
+
+// The stages one after the other, with the lent words 0 at the end.
+fn settle(corners: &[u32], points: usize, least: usize, work: &mut [u32]) -> bool
+    requires { ⌜ Lent (now corners) points (now work) ⌝ }
+    requires { ⌜ 0 < least ⌝ }
+    ensures { λ r. ⌜ Settled (now (corners .entry)) points least (now (work .entry)) (now (work .exit)) r ⌝ }
+{
+    clear(work, points + points + points);
+    link_corners(corners, points, work);
+    let r = corners_ringed(corners, points, least, work);
+    clear(work, corners.len() / 3 * 32 + points * 16);
+    r
+}
+
+// Decides rules (b) and (c) in time linear in the triangles and the points. The lent words, 32 for each triangle and 16 for each point, may hold anything, and are 0 afterwards.
+pub fn closed_oriented_manifold(corners: &[u32], points: usize, work: &mut [u32]) -> bool
+    requires { ⌜ Lent (now corners) points (now work) ⌝ }
+    ensures { λ r. ⌜ Decided (now (corners .entry)) points (now (work .entry)) (now (work .exit)) r ⌝ }
+{
+    settle(corners, points, 1, work)
+}
+
+// Whether the corners of each triangle differ: rule (a).
+fn corners_differ(corners: &[u32]) -> bool
+    requires { ⌜ (length (now corners) % 3 ≡ 0) × (length (now corners) ≤ 98304) ⌝ }
+    ensures { λ r. ⌜ Told (now (corners .entry)) r ⌝ }
+{
+    let mut k: usize = 0;
+    while k < corners.len() {
+        let a = corners[k];
+        let b = corners[k + 1];
+        let c = corners[k + 2];
+        if a == b {
+            return false;
+        }
+        if b == c {
+            return false;
+        }
+        if c == a {
+            return false;
+        }
+        k += 3;
+    }
+    true
+}
+
+// Decides all four rules, (a) to (d), the same way. With (a) to (c), two triangles with the same corners are a ring of two steps.
+pub fn closed_surface(corners: &[u32], points: usize, work: &mut [u32]) -> bool
+    requires { ⌜ Lent (now corners) points (now work) ⌝ }
+    ensures { λ r. ⌜ ClosedDecided (now (corners .entry)) points (now (work .entry)) (now (work .exit)) r ⌝ }
+{
+    if corners_differ(corners) {
+        settle(corners, points, 3, work)
+    } else {
+        clear(work, corners.len() / 3 * 32 + points * 16);
+        false
+    }
+}

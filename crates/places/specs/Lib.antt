@@ -1,0 +1,2 @@
+-- The definitions that speak of places of a corner list.
+pub mod Place

@@ -1,0 +1,32 @@
+-- The theorems, in the terms of the definitions: `Laws` (the laws of flips and collapses), `PageTwelve` (the order of the list), `Decision` (the test decides), `Valence` (rule (d) by counting),
+-- `Original` (the Rust's test answers likewise), `FlipRings`, `CollapseRings` and `Counts` (what the edits do to the rings), `Labels`, `Formula` (Euler's number); and `Examples`, small surfaces by computation.
+-- `Flat` and `Held` have the lists of corner numbers. The others lead there: `Surface` is closedness without any order, and `Bridge` goes from the one to the other.
+pub mod Bools
+pub mod Reading
+pub mod Rings
+pub mod Steps
+pub mod Surface
+pub mod FlipCore
+pub mod Rename
+pub mod CollapseCore
+pub mod Places
+pub mod Hinged
+pub mod Edits
+pub mod Around
+pub mod Bridge
+pub mod Valence
+pub mod Euler
+pub mod Sums
+pub mod Formula
+pub mod FlipRings
+pub mod CollapseRings
+pub mod Counts
+pub mod Flat
+pub mod Held
+pub mod Decision
+pub mod Labels
+pub mod PageTwelve
+pub mod Laws
+pub mod Pairs
+pub mod Original
+pub mod Examples

@@ -1,0 +1,34 @@
+-- Page twelve of the user's manual: "the order of the triangles does not affect whether the surface closes". Definitions only; the theorem is `page-twelve` of `proofs/PageTwelve`.
+use mathlib.Core.Path.{_≡_}
+use mathlib.Core.Logic.{_↔_}
+use mathlib.Core.List.{List, [], _∷_, List·Permᴰ}
+use Rattle.surface.specs.Triangle.{Tri, tri}
+use Rattle.surface.specs.Closed.{Paired, Ringed, Distinct, Closed}
+
+-- the same triangle, its turn begun one corner later
+abbrev pub turned : Tri → Tri
+turned t = tri (t .b) (t .c) (t .a)
+
+-- t is s, its turn begun at any corner
+pub data Turns (s : Tri) : Tri → Type 0 where
+  first : Turns s s
+  second : Turns s (turned s)
+  third : Turns s (turned (turned s))
+
+-- place by place the same triangles, the turn of each begun at any corner
+pub data EachTurns : List Tri → List Tri → Type 0 where
+  none : EachTurns [] []
+  more : {s t : Tri} {ss ts : List Tri} → Turns s t → EachTurns ss ts → EachTurns (s ∷ ss) (t ∷ ts)
+
+-- us lists the triangles of ts in any order, the turn of each begun at any corner
+pub record Relisted (ts us : List Tri) : Type 0 where
+  pub order : List Tri
+  pub same : List·Permᴰ ts order
+  pub turns : EachTurns order us
+
+-- each rule that speaks of the whole list holds of both or of neither
+pub record PageTwelve (ts us : List Tri) : Type 0 where
+  pub paired : Paired ts ↔ Paired us
+  pub ringed : Ringed ts ↔ Ringed us
+  pub distinct : Distinct ts ↔ Distinct us
+  pub closed : Closed ts ↔ Closed us

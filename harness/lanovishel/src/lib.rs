@@ -1,0 +1,9 @@
+//! Closed triangle surfaces, by functions that are proved against their contracts in Rattle.
+//!
+//! Every function answers for every input: nothing here panics, and no call reads or writes
+//! outside the slices that it is lent.
+mod root;
+
+pub mod raw;
+
+pub use root::sqrt;
