@@ -1,0 +1,86 @@
+-- What an accepted surface has: rules (a), (b) and (c), corners on the list, a smallest quality above 0 and at most 1, and a volume that is finite and above 0.
+use Prim.Native.Nat.{ℕ, _/_, _%_, _<_}
+use native.Mathlib.Omega.{arith}
+use mathlib.Core.Path.{_≡_, refl, sym, ap, _∙_, subst}
+use mathlib.Core.Bool.{Bool, true, false, cond}
+use mathlib.Core.List.{List}
+use lib.Dec.{T, eqb}
+use lib.ListN.{length, getD}
+use lib.Ieee.{Float, lt, le}
+use borrow.Author.Tests.{eqb-true, eq-eqb}
+use Rattle.surface.specs.Triangle.{Tri, tri, triangles}
+use Rattle.surface.specs.Closed.{around, Ring, InUse, Differ, Paired}
+use Rattle.questions.specs.Rules.{pairedRinged?}
+use Rattle.questions.specs.Questions.{lentNumber}
+use Rattle.questions.proofs.Rules.{pairedRinged?-iff}
+use Rattle.questions.proofs.Counted.{Counted, asked-zero}
+use Rattle.quality.specs.Quality.{number, degenerate}
+use Rattle.quality.proofs.Lesser.{above-zero, kept-positive}
+use Rattle.checking.specs.Validate.{qualityAt, measured, asWhole, examined, validated}
+use Rattle.checking.specs.declared.Verdict.{Verdict}
+use Rattle.checking.specs.declared.Verdict.the-variants.{Accepted, Refused}
+use Rattle.checking.proofs.Sound.{Measures, measures, corners-below}
+use Rattle.checking.proofs.Cases.{by-whole, by-first, some-triangles}
+
+abbrev at : List Tri → ℕ → Tri
+at ts i = getD ts i (tri 0 0 0)
+
+pub record Sound (points : List Float) (corners : List ℕ) (quality volume : Float) : Type 0 where
+  -- (a), by way of the floats
+  pub differ : (i : ℕ) → i < length (triangles corners) → Differ (at (triangles corners) i)
+  -- (b) and (c)
+  pub paired : Paired (triangles corners)
+  pub ringed : (v : ℕ) → InUse (triangles corners) v → Ring (around (triangles corners) v)
+  -- every corner is on the list
+  pub below : (k : ℕ) → k < length corners → getD corners k 0 < length points / 3
+  -- 0 < quality ≤ 1, and no triangle's quality is less
+  pub above : T (lt (number 0) quality)
+  pub at-most-one : T (le quality (number 1))
+  pub smallest : (i : ℕ) → i < length (triangles corners) → T (le quality (qualityAt points (at (triangles corners) i)))
+  -- 0 < volume
+  pub encloses : T (lt (number 0) volume)
+
+-- the last two questions are answered by "yes"
+record Yes (ts : List Tri) (x : Verdict) (q v : Float) : Type 0 where
+  same : x ≡ Accepted q v
+  round : pairedRinged? ts ≡ true
+  kept : degenerate v ≡ false
+
+whole-yes : (ts : List Tri) (x : Verdict) (q v : Float) → asWhole ts x ≡ Accepted q v → Yes ts x q v
+whole-yes ts (Refused n) q v e = let z : _≡_ {A = ℕ} 0 1 = cc in absurd (omega arith)
+whole-yes ts (Accepted q' v') q v e = go (pairedRinged? ts) refl (degenerate v') refl
+  where
+    go : (r : Bool) → pairedRinged? ts ≡ r → (d : Bool) → degenerate v' ≡ d → Yes ts (Accepted q' v') q v
+    go false p d g = let u : Refused 7 ≡ Accepted q v = sym (by-whole ts q' v' p g) ∙ e in let z : _≡_ {A = ℕ} 0 1 = cc in absurd (omega arith)
+    go true p true g = let u : Refused 8 ≡ Accepted q v = sym (by-whole ts q' v' p g) ∙ e in let z : _≡_ {A = ℕ} 0 1 = cc in absurd (omega arith)
+    go true p false g =
+        let u : Accepted q' v' ≡ Accepted q v = sym (by-whole ts q' v' p g) ∙ e in
+        let same : v' ≡ v = cc in
+        record { same = u; round = p; kept = ap degenerate (sym same) ∙ g }
+
+module _ (ps : List Float) (cs ls work : List ℕ) (q v : Float) (e : validated ps cs ls work ≡ Accepted q v) where
+  -- questions 1 to 4
+  pub accepted-lent : lentNumber ps cs ls work ≡ 0
+  accepted-lent = go (eqb (lentNumber ps cs ls work) 0) refl
+    where
+      go : (b : Bool) → eqb (lentNumber ps cs ls work) 0 ≡ b → lentNumber ps cs ls work ≡ 0
+      go true p = eqb-true _ 0 p
+      go false p = let u : Refused (lentNumber ps cs ls work) ≡ Accepted q v = sym (by-first ps cs ls work p) ∙ e in let z : _≡_ {A = ℕ} 0 1 = cc in absurd (omega arith)
+
+  -- and with at least one triangle the others
+  pub sound : 0 < length cs → Sound ps cs q v
+  sound some =
+      let c = asked-zero ps cs ls work accepted-lent .0 in
+      let y = whole-yes (triangles cs) (measured ps cs) q v (some-triangles ps cs (λ z. omega arith) ∙ sym (by-first ps cs ls work (eq-eqb _ 0 accepted-lent)) ∙ e) in
+      let m = measures ps cs q v (y .same) in
+      let r = (pairedRinged?-iff (triangles cs)) .0 (y .round) in
+      record {
+        differ = λ i l. m .every i l .corners;
+        paired = r .paired;
+        ringed = r .ringed;
+        below = corners-below ps cs q (c .corners) m;
+        above = above-zero q (m .above);
+        at-most-one = m .at-most-one;
+        smallest = λ i l. m .every i l .bounds;
+        encloses = above-zero v (kept-positive v (y .kept));
+      }

@@ -1,0 +1,19 @@
+-- The labels of a corner (document 01, "Surface"): those of the triangles that name it. Definitions only.
+use Prim.Native.Nat.{ℕ}
+use mathlib.Core.Bool.{Bool, false, _&&_, _||_}
+use mathlib.Core.List.{List, [], _∷_}
+use lib.Dec.{eqb}
+use Rattle.surface.specs.Triangle.{Tri, names}
+
+-- the corner v carries the label l: a triangle with that label names it
+unfoldable pub carries : List Tri → List ℕ → ℕ → ℕ → Bool
+carries [] labels v l = false
+carries (t ∷ ts) [] v l = false
+carries (t ∷ ts) (m ∷ labels) v l = (names t v && eqb m l) || carries ts labels v l
+
+abbrev pub both : List Tri → List ℕ → ℕ → ℕ → ℕ → Bool
+both ts labels v k l = carries ts labels v k && carries ts labels v l
+
+-- the corner v carries both 0 and 1, 2 and 3, 4 and 5, or 6 and 7
+abbrev pub opposed : List Tri → List ℕ → ℕ → Bool
+opposed ts labels v = both ts labels v 0 1 || (both ts labels v 2 3 || (both ts labels v 4 5 || both ts labels v 6 7))

@@ -1,0 +1,178 @@
+// The questions that all calls share: whether the lent lists are a surface, and then whether it is one that may be edited.
+use places::wide;
+ghost use mathlib.Core.Path.{_≡_};
+ghost use Prim.Native.Nat.{ℕ, _+_, _*_, _<_};
+ghost use Rattle.float.specs.Order.{isFinite};
+ghost use Rattle.places.specs.Place.{at};
+ghost use Rattle.questions.specs.Rules.{all};
+ghost use Rattle.questions.specs.Questions.{lentNumber, known?, listed?, Admits};
+ghost use Rattle.questions.specs.Stages.{Sized, Listed, opp, Marked, BeforeRules, Further};
+
+// Whether every value is finite.
+fn all_finite(points: &[f64]) -> bool
+    ensures { λ r. ⌜ r ≡ all isFinite (now (points .entry)) ⌝ }
+{
+    let mut i: usize = 0;
+    while i < points.len() {
+        if !float::is_finite(points[i]) {
+            return false;
+        }
+        i += 1;
+    }
+    true
+}
+
+// Questions 1 to 4: the number of the first that is answered by "no", or 0.
+pub fn lent(points: &[f64], corners: &[u32], labels: &[u8], work: &[u32]) -> u32
+    ensures { λ r. ⌜ r ≡ lentNumber (now (points .entry)) (now (corners .entry)) (now (labels .entry)) (now (work .entry)) ⌝ }
+{
+    if points.len() % 3 != 0 {
+        return 1;
+    }
+    if corners.len() % 3 != 0 {
+        return 1;
+    }
+    if labels.len() != corners.len() / 3 {
+        return 1;
+    }
+    if points.len() / 3 > 32768 {
+        return 2;
+    }
+    if corners.len() / 3 > 32768 {
+        return 2;
+    }
+    if work.len() < corners.len() / 3 * 32 + points.len() / 3 * 16 {
+        return 3;
+    }
+    if all_finite(points) {
+        return 0;
+    }
+    4
+}
+
+// Whether every label is at most 7.
+fn labels_known(labels: &[u8]) -> bool
+    ensures { λ r. ⌜ r ≡ known? (now (labels .entry)) ⌝ }
+{
+    let mut i: usize = 0;
+    while i < labels.len() {
+        let l = labels[i];
+        if l > 7 {
+            return false;
+        }
+        i += 1;
+    }
+    true
+}
+
+// Whether every corner is below the number of points.
+fn corners_listed(corners: &[u32], points: usize) -> bool
+    ensures { λ r. ⌜ r ≡ listed? points (now (corners .entry)) ⌝ }
+{
+    let mut i: usize = 0;
+    while i < corners.len() {
+        let v = wide(corners[i]);
+        if points <= v {
+            return false;
+        }
+        i += 1;
+    }
+    true
+}
+
+fn wide_label(l: u8) -> usize
+    ensures { λ r. ⌜ r ≡ l ⌝ }
+{
+    l as usize
+}
+
+// The label opposed to l.
+fn opposed(l: usize) -> usize
+    requires { ⌜ l < 8 ⌝ }
+    ensures { λ r. ⌜ r ≡ opp l ⌝ }
+{
+    if l % 2 == 0 { l + 1 } else { l - 1 }
+}
+
+// Marks the labels that each corner carries, place by place: the word 8 * corner + label becomes 1. Whether no corner has the mark of an opposed label.
+fn mark_labels(corners: &[u32], labels: &[u8], points: usize, work: &mut [u32]) -> bool
+    requires { ⌜ Listed (now corners) (now labels) points (now work) ⌝ }
+    requires { ⌜ ((i : ℕ) → i < points * 8 → at (now work) i ≡ 0) ⌝ }
+    ensures { λ r. ⌜ Marked (now (corners .entry)) (now (labels .entry)) (points * 8) (now (work .entry)) (now (work .exit)) r ⌝ }
+{
+    let mut k: usize = 0;
+    while k < corners.len() {
+        let l = wide_label(labels[k / 3]);
+        let v = wide(corners[k]);
+        let other = work[v * 8 + opposed(l)];
+        if other == 1 {
+            return false;
+        }
+        work[v * 8 + l] = 1;
+        k += 1;
+    }
+    true
+}
+
+// Whether no corner carries two opposed labels.
+fn labels_agree(corners: &[u32], labels: &[u8], points: usize, work: &mut [u32]) -> bool
+    requires { ⌜ Listed (now corners) (now labels) points (now work) ⌝ }
+    ensures { λ r. ⌜ Marked (now (corners .entry)) (now (labels .entry)) (points * 8) (now (work .entry)) (now (work .exit)) r ⌝ }
+{
+    closing::clear(work, points * 8);
+    mark_labels(corners, labels, points, work)
+}
+
+// The questions before rules (b) to (d): 9, 5, 10 and 11.
+fn before_rules(corners: &[u32], labels: &[u8], points: usize, work: &mut [u32]) -> u32
+    requires { ⌜ Sized (now corners) (now labels) points (now work) ⌝ }
+    ensures { λ r. ⌜ BeforeRules (now (corners .entry)) (now (labels .entry)) points (now (work .entry)) (now (work .exit)) r ⌝ }
+{
+    if !labels_known(labels) {
+        return 9;
+    }
+    if !corners_listed(corners, points) {
+        return 5;
+    }
+    if !closing::corners_differ(corners) {
+        return 10;
+    }
+    if !labels_agree(corners, labels, points, work) {
+        return 11;
+    }
+    0
+}
+
+// Questions 9, 5, 10, 11, 7 and 12. A closed surface is judged once; another is judged again for 7 or 12.
+fn further(corners: &[u32], labels: &[u8], points: usize, work: &mut [u32]) -> u32
+    requires { ⌜ Sized (now corners) (now labels) points (now work) ⌝ }
+    ensures { λ r. ⌜ Further (now (corners .entry)) (now (labels .entry)) points (now (work .entry)) (now (work .exit)) r ⌝ }
+{
+    let number = before_rules(corners, labels, points, work);
+    if number != 0 {
+        closing::clear(work, corners.len() / 3 * 32 + points * 16);
+        return number;
+    }
+    if closing::closed_surface(corners, points, work) {
+        return 0;
+    }
+    if closing::closed_oriented_manifold(corners, points, work) {
+        return 12;
+    }
+    7
+}
+
+// All questions that improving and editing share: the number of the first that is answered by "no", or 0.
+pub fn admitted(points: &[f64], corners: &[u32], labels: &[u8], work: &mut [u32]) -> u32
+    ensures { λ r. ⌜ Admits (now (points .entry)) (now (corners .entry)) (now (labels .entry)) (now (work .entry)) (now (work .exit)) r ⌝ }
+{
+    let number = lent(points, corners, labels, work);
+    if number == 0 {
+        return further(corners, labels, points.len() / 3, work);
+    }
+    if number == 4 {
+        closing::clear(work, corners.len() / 3 * 32 + points.len() / 3 * 16);
+        return 4;
+    }
+    number
+}

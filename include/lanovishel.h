@@ -1,0 +1,27 @@
+/* Lanovishel for C: link liblanovishel.a, which `rt staticlib lanovishel` makes.
+ *
+ * A list is a pointer and a length. No function asks anything of its caller but that each pointer is valid
+ * for its length and that no list that is written overlaps another: a bad call is answered with its number
+ * and leaves every list as it was lent (the work words as document 01 says). */
+#ifndef LANOVISHEL_H
+#define LANOVISHEL_H
+
+#include <stddef.h>
+#include <stdint.h>
+
+/* How many work words a surface needs. */
+#define LANOVISHEL_WORK_WORDS(points, triangles) (32 * (size_t)(triangles) + 16 * (size_t)(points))
+
+/* The square root of IEEE 754. */
+double lanovishel_sqrt(double x);
+
+/* Checks a surface: points has three values a point, corners three corner numbers a triangle, labels one a
+ * triangle. 0 where it is accepted, with its smallest quality and its volume in numbers; else the number of
+ * the question that it fails, and numbers is 0. */
+uint32_t lanovishel_check(const double *points, size_t point_values,
+                          const uint32_t *corners, size_t corner_numbers,
+                          const uint8_t *labels, size_t label_count,
+                          uint32_t *work, size_t work_words,
+                          double numbers[2]);
+
+#endif
