@@ -10,7 +10,7 @@ use lib.Ieee.{Float, binary64, ofBits, le}
 use borrow.Author.Tests.{eq-eqb, ne-eqb, lt-leb}
 use Rattle.float.specs.Order.{isFinite}
 use Rattle.surface.specs.Triangle.{Tri, triangles}
-use Rattle.places.proofs.Fine.{Manifold}
+use Rattle.surface.specs.Closed.{Manifold}
 use Rattle.questions.specs.Rules.{pairedRinged?}
 use Rattle.questions.specs.Questions.{lentNumber, needed, cleared, workAfter}
 use Rattle.questions.proofs.Rules.{pairedRinged?-iff}

@@ -153,7 +153,13 @@ fn examine(points: &[f64], corners: &[u32], work: &mut [u32]) -> Verdict
         return Verdict::Accepted(0.0, 0.0);
     }
     match measure(points, corners) {
-        Verdict::Accepted(quality, volume) => whole(corners, points.len() / 3, quality, volume, work),
+        Verdict::Accepted(quality, volume) => whole(
+            corners,
+            points.len() / 3,
+            quality,
+            volume,
+            work,
+        ),
         Verdict::Refused(why) => {
             closing::clear(work, corners.len() / 3 * 32 + points.len() / 3 * 16);
             Verdict::Refused(why)

@@ -157,7 +157,7 @@ pub fn closed_oriented_manifold(corners: &[u32], points: usize, work: &mut [u32]
 }
 
 // Whether the corners of each triangle differ: rule (a).
-fn corners_differ(corners: &[u32]) -> bool
+pub fn corners_differ(corners: &[u32]) -> bool
     requires { ⌜ (length (now corners) % 3 ≡ 0) × (length (now corners) ≤ 98304) ⌝ }
     ensures { λ r. ⌜ Told (now (corners .entry)) r ⌝ }
 {

@@ -8,31 +8,31 @@ use mathlib.Core.List.{List, [], _∷_}
 use lib.ListN.{length, getD, drop, drop-of-length-le}
 use lib.Seq.{drop-cons}
 use Rattle.surface.proofs.Bools.{both, join}
-use Rattle.questions.specs.Rules.{all}
+use Rattle.surface.specs.Check.{every}
 
 module _ {A : Type 0} (p : A → Bool) (d : A) where
-  pub all-at : (l : List A) → all p l ≡ true → (i : ℕ) → i < length l → p (getD l i d) ≡ true
-  unfolding all
+  pub all-at : (l : List A) → every p l ≡ true → (i : ℕ) → i < length l → p (getD l i d) ≡ true
+  unfolding every
   all-at [] e i h = absurd (omega arith)
-  all-at (x ∷ l) e zero h = (both (p x) (all p l) e) .0
-  all-at (x ∷ l) e (suc i) h = all-at l ((both (p x) (all p l) e) .1) i (omega arith)
+  all-at (x ∷ l) e zero h = (both (p x) (every p l) e) .0
+  all-at (x ∷ l) e (suc i) h = all-at l ((both (p x) (every p l) e) .1) i (omega arith)
 
-  pub at-all : (l : List A) → ((i : ℕ) → i < length l → p (getD l i d) ≡ true) → all p l ≡ true
-  unfolding all
+  pub at-all : (l : List A) → ((i : ℕ) → i < length l → p (getD l i d) ≡ true) → every p l ≡ true
+  unfolding every
   at-all [] h = refl
-  at-all (x ∷ l) h = join (p x) (all p l) (h 0 (omega arith)) (at-all l (λ i k. h (suc i) (omega arith)))
+  at-all (x ∷ l) h = join (p x) (every p l) (h 0 (omega arith)) (at-all l (λ i k. h (suc i) (omega arith)))
 
   -- a turn of a loop at i, and its ends
-  all-more : (l : List A) (i : ℕ) → i < length l → all p (drop i l) ≡ (p (getD l i d) && all p (drop (i + 1) l))
-  unfolding all
+  all-more : (l : List A) (i : ℕ) → i < length l → every p (drop i l) ≡ (p (getD l i d) && every p (drop (i + 1) l))
+  unfolding every
   all-more l i h = rw (add-one, drop-cons l i d)
 
-  pub all-on : (l : List A) (i : ℕ) → i < length l → p (getD l i d) ≡ true → all p (drop i l) ≡ all p (drop (i + 1) l)
-  all-on l i h t = all-more l i h ∙ ap (λ (z : Bool). z && all p (drop (i + 1) l)) t
+  pub all-on : (l : List A) (i : ℕ) → i < length l → p (getD l i d) ≡ true → every p (drop i l) ≡ every p (drop (i + 1) l)
+  all-on l i h t = all-more l i h ∙ ap (λ (z : Bool). z && every p (drop (i + 1) l)) t
 
-  pub all-out : (l : List A) (i : ℕ) → i < length l → p (getD l i d) ≡ false → all p (drop i l) ≡ false
-  all-out l i h t = all-more l i h ∙ ap (λ (z : Bool). z && all p (drop (i + 1) l)) t
+  pub all-out : (l : List A) (i : ℕ) → i < length l → p (getD l i d) ≡ false → every p (drop i l) ≡ false
+  all-out l i h t = all-more l i h ∙ ap (λ (z : Bool). z && every p (drop (i + 1) l)) t
 
-pub all-done : {A : Type 0} (p : A → Bool) (l : List A) (i : ℕ) → length l ≤ i → all p (drop i l) ≡ true
-unfolding all
-all-done p l i h = ap (all p) (drop-of-length-le l h)
+pub all-done : {A : Type 0} (p : A → Bool) (l : List A) (i : ℕ) → length l ≤ i → every p (drop i l) ≡ true
+unfolding every
+all-done p l i h = ap (every p) (drop-of-length-le l h)

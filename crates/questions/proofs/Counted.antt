@@ -10,7 +10,7 @@ use lib.Ieee.{Float}
 use borrow.Author.Tests.{eqb-true, leb-true, eq-eqb, ne-eqb, le-leb, lt-leb}
 use Rattle.float.specs.Order.{isFinite}
 use Rattle.surface.proofs.Bools.{both, join}
-use Rattle.questions.specs.Rules.{all}
+use Rattle.surface.specs.Check.{every}
 use Rattle.questions.specs.Questions.{ask, needed, lentNumber, cleared, workAfter}
 
 -- what the lists are after questions 1 to 3
@@ -32,7 +32,7 @@ module _ (ps : List Float) (cs ls work : List ℕ) where
   abbrev enough : Bool
   enough = leb (needed ps cs) (length work)
 
-  by-tests : {a b c d : Bool} → threes ≡ a → few ≡ b → enough ≡ c → all isFinite ps ≡ d → lentNumber ps cs ls work ≡ ask a 1 (ask b 2 (ask c 3 (ask d 4 0)))
+  by-tests : {a b c d : Bool} → threes ≡ a → few ≡ b → enough ≡ c → every isFinite ps ≡ d → lentNumber ps cs ls work ≡ ask a 1 (ask b 2 (ask c 3 (ask d 4 0)))
   unfolding lentNumber
   by-tests p q r s = λ i. ask (p i) 1 (ask (q i) 2 (ask (r i) 3 (ask (s i) 4 0)))
 
@@ -64,18 +64,18 @@ module _ (ps : List Float) (cs ls work : List ℕ) where
       pub no-room : length work < needed ps cs → 3 ≡ lentNumber ps cs ls work
       no-room h = sym (by-tests in-threes at-most (lt-leb (needed ps cs) (length work) h) refl)
 
-      pub asked-finite : needed ps cs ≤ length work → {d : Bool} → all isFinite ps ≡ d → ask d 4 0 ≡ lentNumber ps cs ls work
+      pub asked-finite : needed ps cs ≤ length work → {d : Bool} → every isFinite ps ≡ d → ask d 4 0 ≡ lentNumber ps cs ls work
       asked-finite h e = sym (by-tests in-threes at-most (le-leb (needed ps cs) (length work) h) e)
 
 -- ---- what the number says
 
 pub data Asked (ps : List Float) (cs ls work : List ℕ) : Type 0 where
   early : 1 ≤ lentNumber ps cs ls work → lentNumber ps cs ls work ≤ 3 → Asked ps cs ls work
-  infinite : Counted ps cs ls work → all isFinite ps ≡ false → lentNumber ps cs ls work ≡ 4 → Asked ps cs ls work
-  lends : Counted ps cs ls work → all isFinite ps ≡ true → lentNumber ps cs ls work ≡ 0 → Asked ps cs ls work
+  infinite : Counted ps cs ls work → every isFinite ps ≡ false → lentNumber ps cs ls work ≡ 4 → Asked ps cs ls work
+  lends : Counted ps cs ls work → every isFinite ps ≡ true → lentNumber ps cs ls work ≡ 0 → Asked ps cs ls work
 
 pub asked : (ps : List Float) (cs ls work : List ℕ) → Asked ps cs ls work
-asked ps cs ls work = go (threes ps cs ls work) refl (few ps cs ls work) refl (enough ps cs ls work) refl (all isFinite ps) refl
+asked ps cs ls work = go (threes ps cs ls work) refl (few ps cs ls work) refl (enough ps cs ls work) refl (every isFinite ps) refl
   where
     counted : threes ps cs ls work ≡ true → few ps cs ls work ≡ true → enough ps cs ls work ≡ true → Counted ps cs ls work
     counted p q r =
@@ -91,7 +91,7 @@ asked ps cs ls work = go (threes ps cs ls work) refl (few ps cs ls work) refl (e
           room = leb-true (needed ps cs) (length work) r;
         }
 
-    go : (a : Bool) → threes ps cs ls work ≡ a → (b : Bool) → few ps cs ls work ≡ b → (c : Bool) → enough ps cs ls work ≡ c → (d : Bool) → all isFinite ps ≡ d → Asked ps cs ls work
+    go : (a : Bool) → threes ps cs ls work ≡ a → (b : Bool) → few ps cs ls work ≡ b → (c : Bool) → enough ps cs ls work ≡ c → (d : Bool) → every isFinite ps ≡ d → Asked ps cs ls work
     go false p b q c r d s = let e = by-tests ps cs ls work p q r s in early (omega arith) (omega arith)
     go true p false q c r d s = let e = by-tests ps cs ls work p q r s in early (omega arith) (omega arith)
     go true p true q false r d s = let e = by-tests ps cs ls work p q r s in early (omega arith) (omega arith)
@@ -99,10 +99,10 @@ asked ps cs ls work = go (threes ps cs ls work) refl (few ps cs ls work) refl (e
     go true p true q true r true s = lends (counted p q r) s (by-tests ps cs ls work p q r s)
 
 module _ (ps : List Float) (cs ls work : List ℕ) where
-  pub asked-zero : lentNumber ps cs ls work ≡ 0 → (Counted ps cs ls work) × (all isFinite ps ≡ true)
+  pub asked-zero : lentNumber ps cs ls work ≡ 0 → (Counted ps cs ls work) × (every isFinite ps ≡ true)
   asked-zero e = go (asked ps cs ls work)
     where
-      go : Asked ps cs ls work → (Counted ps cs ls work) × (all isFinite ps ≡ true)
+      go : Asked ps cs ls work → (Counted ps cs ls work) × (every isFinite ps ≡ true)
       go (early p q) = absurd (omega arith)
       go (infinite c s q) = absurd (omega arith)
       go (lends c s q) = (c, s)

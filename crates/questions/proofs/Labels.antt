@@ -1,7 +1,7 @@
 -- The labels of a corner by the places of the corner list: the place k belongs to the triangle k / 3, and has that triangle's label.
 use Prim.Native.Nat.{ℕ, zero, suc, _+_, _*_, _-_, _/_, _%_, _<_}
 use native.Mathlib.Omega.{arith}
-use mathlib.Core.Path.{_≡_, refl, sym, ap, _∙_}
+use mathlib.Core.Path.{_≡_, refl, sym, ap, _∙_, subst}
 use mathlib.Core.Logic.{_⊎_, inl, inr}
 use mathlib.Core.Bool.{Bool, true, false, _&&_, _||_, not, false≢true}
 use mathlib.Core.List.{List, [], _∷_}
@@ -12,9 +12,10 @@ use Rattle.surface.specs.Triangle.{Tri, tri, triangles, names}
 use Rattle.surface.proofs.Bools.{join, not-true, true-false, or-cases}
 use Rattle.surface.proofs.Bools as bools
 use Rattle.places.specs.Place.{at}
-use Rattle.questions.specs.Rules.{all}
+use Rattle.surface.specs.Check.{every}
 use Rattle.questions.specs.Questions.{unopposed?}
-use Rattle.questions.specs.Labels.{carries, both, opposed}
+use Rattle.surface.specs.Label.{carries}
+use Rattle.questions.specs.Labels.{both, opposed}
 use Rattle.questions.specs.Stages.{opp}
 use Rattle.questions.proofs.All.{all-at, at-all}
 
@@ -152,3 +153,18 @@ module _ (c ls : List ℕ) where
       go : (v : ℕ) (b : Bool) → opposed (triangles c) ls v ≡ b → not b ≡ true
       go v true e = absurd (n (opposed-clash v e))
       go v false e = refl
+
+  -- question 11 of the corners in use, and of every corner
+  pub unopposed-every : unopposed? c ls ≡ true → (v : ℕ) → opposed (triangles c) ls v ≡ false
+  unopposed-every e v = go (opposed (triangles c) ls v) refl
+    where
+      go : (b : Bool) → opposed (triangles c) ls v ≡ b → b ≡ false
+      go true q =
+          let p = four-pair (carries (triangles c) ls v) q in
+          let r = carries-place c ls v (p .l) (p .one) in
+          let n : not (opposed (triangles c) ls v) ≡ true = subst (λ (u : ℕ). not (opposed (triangles c) ls u) ≡ true) (r .names) (all-at (λ (u : ℕ). not (opposed (triangles c) ls u)) 0 c e (r .j) (r .low)) in
+          absurd (true-false q (not-true _ n))
+      go false q = refl
+
+  pub every-unopposed : ((v : ℕ) → opposed (triangles c) ls v ≡ false) → unopposed? c ls ≡ true
+  every-unopposed h = at-all (λ (v : ℕ). not (opposed (triangles c) ls v)) 0 c (λ i l. ap not (h (at c i)))

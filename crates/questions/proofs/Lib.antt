@@ -1,6 +1,9 @@
--- The laws of the questions. `All` has tests of every element of a list, and the turns of a loop that makes one; `Counted` has questions 1 to 4 by their tests.
+-- The laws of the questions: `Laws` has the theorem, that all are answered by "yes" exactly where the surface is `Admitted`; `Rules` says the same of the tests of the rules.
+-- The others lead there and serve the proofs of the functions: `All`, tests of every element; `Counted`, questions 1 to 4; `Labels` and `Marks`, question 11; `Chain`, the further questions.
 pub mod All
 pub mod Counted
 pub mod Rules
 pub mod Labels
 pub mod Marks
+pub mod Chain
+pub mod Laws

@@ -19,14 +19,15 @@ use Rattle.surface.proofs.Places.{place-has}
 use Rattle.surface.proofs.Around.{nothing-left, joined-ring, ring-joined}
 use Rattle.surface.proofs.Bridge.{in-use}
 use Rattle.surface.proofs.Euler.{use-has}
-use Rattle.places.proofs.Fine.{Manifold}
-use Rattle.questions.specs.Rules.{all, ring?, rings?, pairedRinged?, within?, distinct?}
+use Rattle.surface.specs.Closed.{Manifold}
+use Rattle.surface.specs.Check.{every}
+use Rattle.questions.specs.Rules.{ring?, rings?, pairedRinged?, within?, distinct?}
 use Rattle.questions.proofs.All.{all-at, at-all}
 
-all-has : (f : Tri → Bool) {ts : List Tri} {x y z : ℕ} → all f ts ≡ true → Has x y z ts → (t : Tri) × (f t ≡ true) × Reads t x y z
-unfolding all
-all-has f e (here {t = t} {ts = ts} r) = (t, (both (f t) (all f ts) e) .0, r)
-all-has f e (there {t = t} {ts = ts} h) = all-has f ((both (f t) (all f ts) e) .1) h
+all-has : (f : Tri → Bool) {ts : List Tri} {x y z : ℕ} → every f ts ≡ true → Has x y z ts → (t : Tri) × (f t ≡ true) × Reads t x y z
+unfolding every
+all-has f e (here {t = t} {ts = ts} r) = (t, (both (f t) (every f ts) e) .0, r)
+all-has f e (there {t = t} {ts = ts} h) = all-has f ((both (f t) (every f ts) e) .1) h
 
 no-empty : (l : List Step) → empty l ≡ true → l ≡ []
 no-empty [] e = refl
@@ -72,7 +73,7 @@ module _ (ts : List Tri) where
         pick (no n) (yes q) = omega (arith, paired .once y x q, paired .back y x q)
         pick (no n) (no m) = omega arith
 
-  module _ (pa : all (sides? ts) ts ≡ true) (ra : all (rings? ts) ts ≡ true) where
+  module _ (pa : every (sides? ts) ts ≡ true) (ra : every (rings? ts) ts ≡ true) where
     one-side : (u v : ℕ) → 0 < sides ts u v → (sides ts u v ≡ 1) × (sides ts v u ≡ 1)
     one-side u v p =
         let h = side-has ts u v p in
@@ -113,13 +114,13 @@ module _ (ts : List Tri) where
 pub pairedRinged?-iff : (ts : List Tri) → (pairedRinged? ts ≡ true) ↔ Manifold ts
 unfolding pairedRinged?
 pairedRinged?-iff ts = (
-  (λ e. let p = both (all (sides? ts) ts) (all (rings? ts) ts) e in rounded ts (p .0) (p .1)),
+  (λ e. let p = both (every (sides? ts) ts) (every (rings? ts) ts) e in rounded ts (p .0) (p .1)),
   λ r. passes ts r,
 )
 
 -- ---- (a)
 
-pub differ?-iff : (ts : List Tri) → (all differ? ts ≡ true) ↔ ((i : ℕ) → i < length ts → Differ (place ts i))
+pub differ?-iff : (ts : List Tri) → (every differ? ts ≡ true) ↔ ((i : ℕ) → i < length ts → Differ (place ts i))
 differ?-iff ts = (
   (λ e i l.
       let t = place ts i in
@@ -183,10 +184,10 @@ unfolding distinct?
 distinct-yes [] e i j p l h = absurd (omega arith)
 distinct-yes (t ∷ ts) e i zero p l h = absurd (omega arith)
 distinct-yes (t ∷ ts) e zero (suc j) p l h =
-    let k = both (all (λ (s : Tri). not (same? t s)) ts) (distinct? ts) e in
+    let k = both (every (λ (s : Tri). not (same? t s)) ts) (distinct? ts) e in
     true-false (yes-same? t (place ts j) h) (not-true _ (all-at (λ (s : Tri). not (same? t s)) (tri 0 0 0) ts (k .0) j (omega arith)))
 distinct-yes (t ∷ ts) e (suc i) (suc j) p l h =
-    let k = both (all (λ (s : Tri). not (same? t s)) ts) (distinct? ts) e in
+    let k = both (every (λ (s : Tri). not (same? t s)) ts) (distinct? ts) e in
     distinct-yes ts (k .1) i j (omega arith) (omega arith) h
 
 yes-distinct : (ts : List Tri) → Distinct ts → distinct? ts ≡ true

@@ -1,15 +1,9 @@
--- The labels of a corner (document 01, "Surface"): those of the triangles that name it. Definitions only.
+-- Labels that no corner may carry together. Definitions only.
 use Prim.Native.Nat.{ℕ}
-use mathlib.Core.Bool.{Bool, false, _&&_, _||_}
-use mathlib.Core.List.{List, [], _∷_}
-use lib.Dec.{eqb}
-use Rattle.surface.specs.Triangle.{Tri, names}
-
--- the corner v carries the label l: a triangle with that label names it
-unfoldable pub carries : List Tri → List ℕ → ℕ → ℕ → Bool
-carries [] labels v l = false
-carries (t ∷ ts) [] v l = false
-carries (t ∷ ts) (m ∷ labels) v l = (names t v && eqb m l) || carries ts labels v l
+use mathlib.Core.Bool.{Bool, _&&_, _||_}
+use mathlib.Core.List.{List}
+use Rattle.surface.specs.Triangle.{Tri}
+use Rattle.surface.specs.Label.{carries}
 
 abbrev pub both : List Tri → List ℕ → ℕ → ℕ → ℕ → Bool
 both ts labels v k l = carries ts labels v k && carries ts labels v l

@@ -4,3 +4,4 @@ pub mod Rules
 pub mod Labels
 pub mod Questions
 pub mod Stages
+pub mod Admitted

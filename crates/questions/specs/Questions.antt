@@ -9,8 +9,10 @@ use lib.Ieee.{Float}
 use Rattle.float.specs.Order.{isFinite}
 use Rattle.surface.specs.Triangle.{triangles}
 use Rattle.surface.specs.Check.{differ?}
-use Rattle.questions.specs.Rules.{all, pairedRinged?, distinct?}
-use Rattle.questions.specs.Labels.{carries, opposed}
+use Rattle.surface.specs.Check.{every}
+use Rattle.questions.specs.Rules.{pairedRinged?, distinct?}
+use Rattle.surface.specs.Label.{carries}
+use Rattle.questions.specs.Labels.{opposed}
 
 -- a question's answer, its number and what is asked after it: "no" gives the number
 abbrev pub ask : Bool → ℕ → ℕ → ℕ
@@ -22,7 +24,7 @@ needed points corners = 32 * (length corners / 3) + 16 * (length points / 3)
 
 -- Questions 1 to 4, of every call: the number of the first that is answered by "no", and 0 where none is.
 unfoldable pub lentNumber : (points : List Float) (corners labels work : List ℕ) → ℕ
-unfolding all
+unfolding every
 lentNumber points corners labels work =
     -- Are point values and corner numbers multiples of three, and labels as many as triangles?
     ask (eqb (length points % 3) 0 && (eqb (length corners % 3) 0 && eqb (length labels) (length corners / 3))) 1
@@ -31,27 +33,27 @@ lentNumber points corners labels work =
     -- Enough work words?
     (ask (leb (needed points corners) (length work)) 3
     -- All point values finite?
-    (ask (all isFinite points) 4 0)))
+    (ask (every isFinite points) 4 0)))
 
 -- labels are at most 7
 abbrev pub known? : List ℕ → Bool
-known? labels = all (λ (l : ℕ). leb l 7) labels
+known? labels = every (λ (l : ℕ). leb l 7) labels
 
 -- corners are on the list of p points
 abbrev pub listed? : ℕ → List ℕ → Bool
-listed? p corners = all (λ (v : ℕ). ltb v p) corners
+listed? p corners = every (λ (v : ℕ). ltb v p) corners
 
 -- no corner carries both 0 and 1, 2 and 3, 4 and 5, or 6 and 7
 abbrev pub unopposed? : List ℕ → List ℕ → Bool
-unopposed? corners labels = all (λ (v : ℕ). not (opposed (triangles corners) labels v)) corners
+unopposed? corners labels = every (λ (v : ℕ). not (opposed (triangles corners) labels v)) corners
 
 -- The questions with which improving and editing go on from 4, of p points: rules (a), then (b) and (c), then (d) among them.
 unfoldable pub furtherNumber : (p : ℕ) (corners labels : List ℕ) → ℕ
-unfolding all carries pairedRinged? distinct?
+unfolding every carries pairedRinged? distinct?
 furtherNumber p corners labels =
     ask (known? labels) 9
     (ask (listed? p corners) 5
-    (ask (all differ? (triangles corners)) 10
+    (ask (every differ? (triangles corners)) 10
     (ask (unopposed? corners labels) 11
     (ask (pairedRinged? (triangles corners)) 7
     (ask (distinct? (triangles corners)) 12 0)))))

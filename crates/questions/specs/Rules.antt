@@ -4,12 +4,7 @@ use mathlib.Core.Bool.{Bool, true, not, _&&_}
 use mathlib.Core.List.{List, [], _∷_}
 use Rattle.surface.specs.Triangle.{Tri, names}
 use Rattle.surface.specs.Closed.{sides, around}
-use Rattle.surface.specs.Check.{leftover, empty, sides?}
-
--- the test holds of every element
-unfoldable pub all : {A : Type 0} → (A → Bool) → List A → Bool
-all p [] = true
-all p (x ∷ l) = p x && all p l
+use Rattle.surface.specs.Check.{leftover, empty, every, sides?}
 
 -- the triangles around each corner of a triangle form one ring
 abbrev pub ring? : List Tri → ℕ → Bool
@@ -20,8 +15,8 @@ rings? ts t = ring? ts (t .a) && (ring? ts (t .b) && ring? ts (t .c))
 
 -- (b) every directed side occurs once and its reverse occurs once; (c) around each corner in use the triangles form one ring
 unfoldable pub pairedRinged? : List Tri → Bool
-unfolding all
-pairedRinged? ts = all (sides? ts) ts && all (rings? ts) ts
+unfolding every
+pairedRinged? ts = every (sides? ts) ts && every (rings? ts) ts
 
 -- each corner of the one triangle is a corner of the other
 abbrev pub within? : Tri → Tri → Bool
@@ -29,6 +24,6 @@ within? s t = names t (s .a) && (names t (s .b) && names t (s .c))
 
 -- (d) no two triangles have the same three corners
 unfoldable pub distinct? : List Tri → Bool
-unfolding all
+unfolding every
 distinct? [] = true
-distinct? (t ∷ ts) = all (λ (s : Tri). not (within? s t && within? t s)) ts && distinct? ts
+distinct? (t ∷ ts) = every (λ (s : Tri). not (within? s t && within? t s)) ts && distinct? ts

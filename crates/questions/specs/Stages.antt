@@ -8,7 +8,7 @@ use Rattle.surface.specs.Triangle.{triangles}
 use Rattle.surface.specs.Check.{differ?}
 use Rattle.places.specs.Place.{at}
 use Rattle.closing.specs.Closing.{needed as lent, Zeroed}
-use Rattle.questions.specs.Rules.{all}
+use Rattle.surface.specs.Check.{every}
 use Rattle.questions.specs.Questions.{ask, known?, listed?, unopposed?, furtherNumber}
 
 -- lists that pass questions 1 to 3
@@ -39,7 +39,7 @@ pub record Marked (corners labels : List ℕ) (n : ℕ) (work work′ : List ℕ
 
 -- questions 9, 5, 10 and 11 are asked
 pub record BeforeRules (corners labels : List ℕ) (p : ℕ) (work work′ : List ℕ) (r : ℕ) : Type 0 where
-  pub answer : r ≡ ask (known? labels) 9 (ask (listed? p corners) 5 (ask (all differ? (triangles corners)) 10 (ask (unopposed? corners labels) 11 0)))
+  pub answer : r ≡ ask (known? labels) 9 (ask (listed? p corners) 5 (ask (every differ? (triangles corners)) 10 (ask (unopposed? corners labels) 11 0)))
   pub far : drop (lent corners p) work′ ≡ drop (lent corners p) work
 
 -- and 7 and 12

@@ -4,13 +4,13 @@ ghost use mathlib.Core.Path.{_≡_};
 ghost use Prim.Native.Nat.{ℕ, _+_, _*_, _<_};
 ghost use Rattle.float.specs.Order.{isFinite};
 ghost use Rattle.places.specs.Place.{at};
-ghost use Rattle.questions.specs.Rules.{all};
+ghost use Rattle.surface.specs.Check.{every};
 ghost use Rattle.questions.specs.Questions.{lentNumber, known?, listed?, Admits};
 ghost use Rattle.questions.specs.Stages.{Sized, Listed, opp, Marked, BeforeRules, Further};
 
 // Whether every value is finite.
 fn all_finite(points: &[f64]) -> bool
-    ensures { λ r. ⌜ r ≡ all isFinite (now (points .entry)) ⌝ }
+    ensures { λ r. ⌜ r ≡ every isFinite (now (points .entry)) ⌝ }
 {
     let mut i: usize = 0;
     while i < points.len() {

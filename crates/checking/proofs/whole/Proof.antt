@@ -4,7 +4,7 @@ use borrow.Author.Needs.{needs}
 use borrow.Author.Tests.{not-true, not-false}
 use denote.Ref.{now}
 use Rattle.surface.specs.Triangle.{triangles}
-use Rattle.places.proofs.Fine.{Manifold}
+use Rattle.surface.specs.Closed.{Manifold}
 use Rattle.checking.proofs.Cases.{not-round, volume-infinite, volume-low, volume-kept}
 use Rattle.checking.proofs.whole.Statement.{statement}
 use Rattle.checking.proofs.whole.Tie as tie
@@ -17,12 +17,12 @@ same-length c = search needs
 
 -- where the rules hold
 round : (c : tie.Else1) → Manifold (triangles (now (c .before .before .before .before .before .before .before .args .corners)))
-round c = c .before .before .before .closed-oriented-manifold .ensures .yea (not-false _ (c .if1 .left))
+round c = c .before .before .before .closed-oriented-manifold .ensures .decides .0 (not-false _ (c .if1 .left))
 
 returns : tie.Need-returns
 returns c =
     let d = c .before .before .before .closed-oriented-manifold .ensures in
-    record { answer = not-round _ _ _ _ (d .nay) (not-true _ (c .if1 .taken)); words = d .zeroed }
+    record { answer = not-round _ _ _ _ (d .decides .1) (not-true _ (c .if1 .taken)); words = d .zeroed }
 
 is-finite-requires : tie.Need-is-finite-requires
 is-finite-requires c κs = search needs

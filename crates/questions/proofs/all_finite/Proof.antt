@@ -7,13 +7,13 @@ use native.Mathlib.Omega.{arith}
 use borrow.Author.Needs.{needs}
 use borrow.Author.Tests.{not-true, not-false}
 use Rattle.float.specs.Order.{isFinite}
-use Rattle.questions.specs.Rules.{all}
+use Rattle.surface.specs.Check.{every}
 use Rattle.questions.proofs.All.{all-on, all-out, all-done}
 use Rattle.questions.proofs.all_finite.Statement.{statement}
 use Rattle.questions.proofs.all_finite.Tie as tie
 
 abbrev Inv-loop : tie.InvT-loop
-Inv-loop points i₀ i = (i ≤ length points) × (all isFinite points ≡ all isFinite (drop i points))
+Inv-loop points i₀ i = (i ≤ length points) × (every isFinite points ≡ every isFinite (drop i points))
 
 abbrev μ-loop : tie.MeasureT-loop
 μ-loop points i₀ i = length points - i

@@ -25,10 +25,7 @@ loop-holds : tie.Need-loop-holds Inv-loop μ-loop
 loop-holds c = let s = c .before .before .before in (omega arith, refl, refl, marks-none _ _ _ _ (s .pre .1))
 
 -- the label and the corner at k
-abbrev at-loop : tie.After-shared-slice-known3 Inv-loop μ-loop → tie.At-loop Inv-loop μ-loop
-at-loop c = c .before .before
-
-abbrev start : tie.At-loop Inv-loop μ-loop → tie.Start
+abbrev start : tie.At-loop Inv-loop μ-loop → tie.Start Inv-loop μ-loop
 start l = l .before .before .before .before
 
 in-labels : (c : tie.In-loop Inv-loop μ-loop) → c .before .loop .k / 3 < length (now (start (c .before) .args .labels))
@@ -88,10 +85,20 @@ slice-read-other : tie.Need-slice-read-other Inv-loop μ-loop
 slice-read-other c = let h = here (c .before .before) in omega (arith, c .before .opposed .ensures)
 
 same-length : tie.Need-same-length Inv-loop μ-loop
-same-length c = ?
+same-length c = c .before .before .before .before .before .before .before .before .loop .inv .1
 
 returns : tie.Need-returns Inv-loop μ-loop
-returns c = ?
+returns c =
+    let o = c .before .before in
+    let w = o .before in
+    let i = w .before .before .before .before in
+    let l = i .before in
+    let g = start l .pre .0 in
+    let cs = now (start l .args .corners) in
+    let ls = now (start l .args .labels) in
+    let x = turn-stops cs ls (start l .args .points) (l .loop .work) (l .loop .k) (l .loop .inv .3) (known i) (below i) (w .wide .ensures) (w .before .before .wide-label .ensures) (o .opposed .ensures) (c .if1 .taken) (i .loop-test .taken) in
+    let low : at ls (x .i / 3) < 8 = omega (arith, g .known (x .i / 3) (omega (arith, x .low-i, g .sized .thirds, g .sized .labelled))) in
+    record { answer = sym (some-opposed cs ls (g .sized .thirds) (g .sized .labelled) x low); far = l .loop .inv .2 }
 
 mul-work : tie.Need-mul-work Inv-loop μ-loop
 mul-work c = let h = here (c .before .before .before) in omega arith
@@ -112,13 +119,30 @@ loop-less : tie.Need-loop-less Inv-loop μ-loop
 loop-less c = search needs
 
 loop-again : tie.Need-loop-again Inv-loop μ-loop
-loop-again c = ?
+loop-again c =
+    let o = c .before .before in
+    let w = o .before in
+    let i = w .before .before .before .before in
+    let l = i .before in
+    let p = start l .args .points in
+    let h = here w in
+    let at-slot : slot (w .wide .result) (w .before .before .wide-label .result) < p * 8 = omega arith in (
+      search needs,
+      length-set (l .loop .work) _ 1 ∙ l .loop .inv .1,
+      drop-set-lt (p * 8) (l .loop .work) _ 1 at-slot ∙ l .loop .inv .2,
+      turn-on (now (start l .args .corners)) (now (start l .args .labels)) p (l .loop .work) (l .loop .k) (l .loop .inv .3) (known i) (below i) (w .wide .ensures) (w .before .before .wide-label .ensures) (o .opposed .ensures) (h .room) (c .if1 .left),
+    )
 
 same-length-2 : tie.Need-same-length-2 Inv-loop μ-loop
 same-length-2 c = c .before .loop .inv .1
 
 returns-2 : tie.Need-returns-2 Inv-loop μ-loop
-returns-2 c = ?
+returns-2 c =
+    let l = c .before in
+    let cs = now (start l .args .corners) in
+    let ls = now (start l .args .labels) in
+    let e : l .loop .k ≡ length cs = omega arith in
+    record { answer = sym (none-opposed cs ls (λ x. l .loop .inv .3 .apart (subst (Clash cs ls) (sym e) x))); far = l .loop .inv .2 }
 
 pub mark-labels-spec : {M : Type 1} → statement M
 mark-labels-spec =

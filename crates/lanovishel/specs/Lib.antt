@@ -1,0 +1,2 @@
+-- What the exported functions promise of every call: the answer, and each lent list afterwards.
+pub mod Check
