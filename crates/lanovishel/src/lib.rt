@@ -28,13 +28,11 @@ pub extern "C" fn lanovishel_check(
 {
     match checking::validate(points, corners, labels, work) {
         Verdict::Accepted(quality, volume) => {
-            numbers[0] = quality;
-            numbers[1] = volume;
+            *numbers = [quality, volume];
             0
         }
         Verdict::Refused(number) => {
-            numbers[0] = 0.0;
-            numbers[1] = 0.0;
+            *numbers = [0.0, 0.0];
             number
         }
     }
