@@ -1,15 +1,19 @@
-//! Prints the tables of docs/FIGURES.md: `cargo run --release -p bench -- [root]`.
-//! Each table sets ours and theirs side by side, measured in this one run.
+//! Prints the tables of docs/FIGURES.md: `cargo run --release -p bench -- [root] [check]`.
+//! Each table sets ours and theirs side by side, measured in this one run; where the original's
+//! source was not there, its times are those of doing nothing.
+mod check;
 mod root;
+mod table;
 
 /// A table's name and what prints it.
-const TABLES: [(&str, fn()); 1] = [("root", root::table)];
+const TABLES: [(&str, fn()); 2] = [("root", root::table), ("check", check::table)];
 
 fn main() {
     let wanted: Vec<String> = std::env::args().skip(1).collect();
     for (name, print) in TABLES {
         if wanted.is_empty() || wanted.iter().any(|w| w == name) {
             print();
+            println!();
         }
     }
 }

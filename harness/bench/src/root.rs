@@ -1,34 +1,28 @@
-//! Nanoseconds for a root, beside the hardware's.
+//! The root, beside the hardware's.
+use crate::table::{head, least, once, row};
 use differential::random::Random;
-use std::{hint::black_box, time::Instant};
+use std::hint::black_box;
 
-/// Prints the table: numbers of any exponent, and numbers about 1.
+/// The roots of a thousand numbers: a microsecond for all is a nanosecond for each.
 pub fn table() {
-    println!("| numbers | ours, ns a root | hardware, ns a root | ratio |");
-    println!("|---|---|---|---|");
     let mut random = Random::new(1);
-    let any: Vec<f64> = (0..4096)
+    let any: Vec<f64> = (0..1000)
         .map(|_| f64::from_bits(random.bits() >> 1))
         .collect();
-    let usual: Vec<f64> = (0..4096).map(|_| 1.0 + random.signed()).collect();
-    for (name, numbers) in [("any positive pattern", any), ("0 to 2", usual)] {
-        let ours = nanoseconds(&numbers, lanovishel::sqrt);
-        let theirs = nanoseconds(&numbers, f64::sqrt);
-        println!(
-            "| {name} | {ours:.1} | {theirs:.1} | {:.1} |",
-            ours / theirs
-        );
+    let usual: Vec<f64> = (0..1000).map(|_| 1.0 + random.signed()).collect();
+    head("the root of", "ours, ns", "hardware, ns");
+    for (name, numbers) in [
+        ("any positive pattern", any),
+        ("a number from 0 to 2", usual),
+    ] {
+        let ours = once(|| (), |()| all(&numbers, lanovishel::sqrt));
+        let hardware = once(|| (), |()| all(&numbers, f64::sqrt));
+        row(name, [least(1000, ours), least(1000, hardware)]);
     }
 }
 
-/// The mean time of `root` over `numbers`, the best of several passes.
-fn nanoseconds(numbers: &[f64], root: impl Fn(f64) -> f64) -> f64 {
-    let pass = || {
-        let start = Instant::now();
-        for &x in numbers {
-            black_box(root(black_box(x)));
-        }
-        start.elapsed().as_nanos() as f64 / numbers.len() as f64
-    };
-    (0..100).map(|_| pass()).fold(f64::INFINITY, f64::min)
+fn all(numbers: &[f64], root: impl Fn(f64) -> f64) {
+    for &x in numbers {
+        black_box(root(black_box(x)));
+    }
 }

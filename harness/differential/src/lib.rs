@@ -1,10 +1,17 @@
-//! Comparison by running: Lanovishel beside the hardware, the original, and models that are written
+//! Comparison by running: Lanovishel beside the original and beside models that are written
 //! from the specification (document 01) alone.
 //!
 //! The tests are the comparison. `LANOVISHEL_RUNS` sets how many random cases each takes, and
 //! `LANOVISHEL_SEED` the seed of the first; a failure names the seed of its case.
+pub mod call;
+pub mod checking;
+pub mod closed;
+pub mod damage;
+pub mod questions;
 pub mod random;
 pub mod roots;
+pub mod surfaces;
+pub mod vectors;
 
 use random::Random;
 use std::env;
@@ -42,5 +49,12 @@ pub fn report(what: &str, wanted: &[u32], answered: &[u32], least: u64) {
             count(number) >= least,
             "{what} {number} is hit less than {least} times"
         );
+    }
+}
+
+/// Says that the original is not compared, where its source was not there.
+pub fn note_absence() {
+    if !original::PRESENT {
+        println!("the original's source is not there: its vectors stand in for it");
     }
 }

@@ -2,8 +2,12 @@
 //!
 //! Every function answers for every input: nothing here panics, and no call reads or writes
 //! outside the slices that it is lent.
+mod check;
+mod refused;
 mod root;
 
 pub mod raw;
 
+pub use check::{Measured, check, work_words};
+pub use refused::Refused;
 pub use root::sqrt;

@@ -1,6 +1,22 @@
 //! The exported functions as they are: a slice is a pointer and a length, an array is a pointer.
+//!
+//! Each is safe to call where every pointer is valid for its length, also where that is 0, and
+//! no list that is written overlaps another list.
 
 unsafe extern "C" {
     /// The square root; see [`crate::sqrt`].
     pub safe fn lanovishel_sqrt(x: f64) -> f64;
+
+    /// Questions 1 to 8; see [`crate::check`].
+    pub fn lanovishel_check(
+        points: *const f64,
+        point_values: usize,
+        corners: *const u32,
+        corner_numbers: usize,
+        labels: *const u8,
+        label_count: usize,
+        work: *mut u32,
+        work_words: usize,
+        numbers: *mut [f64; 2],
+    ) -> u32;
 }

@@ -1,0 +1,123 @@
+//! Every list that a call is lent, what it answers, and the comparison of two calls.
+use crate::surfaces::Surface;
+
+/// The lists of a call and its answer, before it or after it. A list that the function does not
+/// take stays as it is.
+#[derive(Clone, Debug, Default)]
+pub struct Call {
+    /// The number answered: 0 for accepted.
+    pub number: u32,
+    /// Points, corners and labels.
+    pub surface: Surface,
+    /// Work words.
+    pub work: Vec<u32>,
+    /// Entries of an edit run, three words each.
+    pub entries: Vec<u32>,
+    /// Verdict words, one an entry.
+    pub verdicts: Vec<u32>,
+    /// The journal.
+    pub journal: Vec<u32>,
+    /// The field sheet's coefficients.
+    pub coefficients: Vec<f64>,
+    /// The field sheet's powers, three a coefficient.
+    pub powers: Vec<u32>,
+    /// The lower and the upper level.
+    pub levels: [f64; 2],
+    /// The box: its lower corner, then its upper.
+    pub bounds: [f64; 6],
+    /// How many rounds of improving.
+    pub rounds: u32,
+    /// Quality and volume.
+    pub numbers: [f64; 2],
+    /// What is left, and how many.
+    pub answer: [u32; 3],
+}
+
+impl Call {
+    /// A call on a surface with so many work words; these, and the places for answers, are lent
+    /// with something in them.
+    pub fn new(surface: Surface, work_words: usize) -> Self {
+        Self {
+            surface,
+            work: filling(work_words),
+            numbers: [f64::NAN, -1.5],
+            answer: [7, 8, 9],
+            ..Self::default()
+        }
+    }
+
+    /// Sets the number, and the work words as document 01 has them after such an end: as lent
+    /// after 1 to 3, else 0 as far as they are needed. `surface` is still as lent.
+    pub fn end(&mut self, number: u32) {
+        self.number = number;
+        if !(1..=3).contains(&number) {
+            self.work[..self.surface.work_words()].fill(0);
+        }
+    }
+
+    /// The first difference between this call and what it must be.
+    pub fn difference(&self, wanted: &Self) -> Result<(), String> {
+        same("number", &[self.number], &[wanted.number])?;
+        same("points", &self.surface.points, &wanted.surface.points)?;
+        same("corners", &self.surface.corners, &wanted.surface.corners)?;
+        same("labels", &self.surface.labels, &wanted.surface.labels)?;
+        same("work", &self.work, &wanted.work)?;
+        same("entries", &self.entries, &wanted.entries)?;
+        same("verdicts", &self.verdicts, &wanted.verdicts)?;
+        same("journal", &self.journal, &wanted.journal)?;
+        same("coefficients", &self.coefficients, &wanted.coefficients)?;
+        same("powers", &self.powers, &wanted.powers)?;
+        same("numbers", &self.numbers, &wanted.numbers)?;
+        same("answer", &self.answer, &wanted.answer)
+    }
+}
+
+/// Words to lend a list with, none of them 0.
+pub fn filling(words: usize) -> Vec<u32> {
+    (0..words as u32).map(|i| i ^ 0x5a5a_5a5a).collect()
+}
+
+/// A number that is compared by its bits.
+trait Bits: Copy {
+    fn bits(self) -> u64;
+}
+
+impl Bits for u8 {
+    fn bits(self) -> u64 {
+        self.into()
+    }
+}
+
+impl Bits for u32 {
+    fn bits(self) -> u64 {
+        self.into()
+    }
+}
+
+impl Bits for f64 {
+    fn bits(self) -> u64 {
+        self.to_bits()
+    }
+}
+
+/// The first place at which two lists differ in their bits.
+fn same<T: Bits>(name: &str, ours: &[T], wanted: &[T]) -> Result<(), String> {
+    if ours.len() != wanted.len() {
+        return Err(format!(
+            "{name}: {} places, not {}",
+            ours.len(),
+            wanted.len()
+        ));
+    }
+    match ours
+        .iter()
+        .zip(wanted)
+        .position(|(a, b)| a.bits() != b.bits())
+    {
+        None => Ok(()),
+        Some(i) => {
+            let [a, b] = [ours[i], wanted[i]].map(Bits::bits);
+            Err(format!("{name}: place {i} is {a:x} ({a}), not {b:x} ({b})"))
+        }
+    }
+}

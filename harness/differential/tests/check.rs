@@ -1,0 +1,62 @@
+//! Checking beside the model and the original: verdicts, both numbers' bits, every list.
+use differential::{
+    cases, checking, note_absence, report,
+    surfaces::{Surface, tetrahedron},
+};
+use lanovishel::{Measured, Refused};
+
+#[test]
+fn random_calls() {
+    note_absence();
+    let mut numbers = Vec::new();
+    let runs = cases(20_000, |random| {
+        let call = checking::random_call(random);
+        let wanted = checking::model(&call);
+        checking::compare_with_original(&wanted)?;
+        numbers.push(wanted.number);
+        checking::ours(&call).difference(&wanted)
+    });
+    println!("{runs} calls of checking");
+    report("number", &[0, 1, 2, 3, 4, 5, 6, 7, 8], &numbers, runs / 500);
+}
+
+fn check(surface: &Surface) -> Result<Measured, Refused> {
+    let mut work = vec![1; surface.work_words()];
+    lanovishel::check(
+        &surface.points,
+        &surface.corners,
+        &surface.labels,
+        &mut work,
+    )
+}
+
+#[test]
+fn starred_cases() {
+    let accepted = check(&tetrahedron()).unwrap();
+    assert_eq!(accepted.quality.to_bits(), 0x3feb_b67a_e858_4caa);
+    assert_eq!(accepted.volume.to_bits(), 0x3fc5_5555_5555_5555);
+
+    let mut open = tetrahedron();
+    open.corners.truncate(9);
+    open.labels.truncate(3);
+    assert_eq!(check(&open), Err(Refused(7)));
+
+    let mut turned = tetrahedron();
+    turned.reverse();
+    assert_eq!(check(&turned), Err(Refused(8)));
+
+    let nothing = Measured {
+        quality: 0.0,
+        volume: 0.0,
+    };
+    assert_eq!(check(&Surface::default()), Ok(nothing));
+
+    let mut touching = tetrahedron();
+    touching.join(&tetrahedron());
+    touching
+        .corners
+        .iter_mut()
+        .filter(|corner| **corner == 4)
+        .for_each(|corner| *corner = 0);
+    assert_eq!(check(&touching), Err(Refused(7)));
+}
