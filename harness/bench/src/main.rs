@@ -1,12 +1,17 @@
-//! Prints the tables of docs/FIGURES.md: `cargo run --release -p bench -- [root] [check]`.
+//! Prints the tables of docs/FIGURES.md: `cargo run --release -p bench -- [root] [check] [closing]`.
 //! Each table sets ours and theirs side by side, measured in this one run; where the original's
 //! source was not there, its times are those of doing nothing.
 mod check;
+mod closing;
 mod root;
 mod table;
 
 /// A table's name and what prints it.
-const TABLES: [(&str, fn()); 2] = [("root", root::table), ("check", check::table)];
+const TABLES: [(&str, fn()); 3] = [
+    ("root", root::table),
+    ("check", check::table),
+    ("closing", closing::table),
+];
 
 fn main() {
     let wanted: Vec<String> = std::env::args().skip(1).collect();
