@@ -1,0 +1,9 @@
+pub mod History
+pub mod Lists
+pub mod Safe
+pub mod Local
+pub mod Route
+pub mod Undo
+pub mod Accepted
+pub mod Flat
+pub mod Entry

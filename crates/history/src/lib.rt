@@ -1,0 +1,1 @@
+// The history of an edit run: its definitions, and what holds of every run.
