@@ -151,7 +151,7 @@ pub record Quanta (f : Format) (a : ℕ) : Type 0 where
 nothing : (e : ℤ) (l : ℕ) → 0 * up e * 2 ^ l / down e ≡ 0 * 2 ^ 0
 nothing e l = ap (λ (x : ℕ). x / down e) (ap (λ (x : ℕ). x * 2 ^ l) (zero-mul (up e)) ∙ zero-mul (2 ^ l) ∙ sym (zero-mul (down e))) ∙ mul-div-cancel 0 (down-pos e)
 
-in-quanta : (f : Format) (s : Bool) (m : ℕ) (e : ℤ) → T (fits f (fin s m e)) → Quanta f (quanta f (fin s m e))
+pub in-quanta : (f : Format) (s : Bool) (m : ℕ) (e : ℤ) → T (fits f (fin s m e)) → Quanta f (quanta f (fin s m e))
 in-quanta f s zero e h = record { m = 0; j = 0; short = pow-pos (prec f); is = nothing e (low f); inside = pow-pos (low f + suc (emax f)) }
 in-quanta f s (suc m) e h =
     let p = parts f s m e h in

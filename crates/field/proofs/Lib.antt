@@ -1,0 +1,7 @@
+-- The laws that the proofs of `field` share: `Sums`, the cases of powers, sums and normals; `Quantum`, values in units of the least f64; `Place`, where a bound lies; `Checks`, the other conditions on a sheet.
+-- `Controls` computes the definitions at closed cases.
+pub mod Sums
+pub mod Quantum
+pub mod Place
+pub mod Checks
+pub mod Controls
