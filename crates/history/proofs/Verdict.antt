@@ -127,8 +127,7 @@ module _ (capacity : ℕ) (h : History) (e : Entry) where
       let t1 = passed (not (exists p (e .a) (e .b))) 22 w2 (λ q. omega arith) (sym (verdict-edit capacity h e k) ∙ z) in
       let t2 = passed (not (allowed p e)) (cond (isFlip e) 23 24) w3 (flip-23 (isFlip e)) (t1 .1) in
       let t3 = passed (not (closed? (made p e .tris))) 25 w4 (λ q. omega arith) (t2 .1) in
-      let t4 = passed (full capacity h) 27 0 (λ q. omega arith) (t3 .1) in
-      (
+      let t4 = passed (full capacity h) 27 0 (λ q. omega arith) (t3 .1) in (
         edit-of p e c k (not-false (exists p (e .a) (e .b)) (t1 .0)) (not-false (allowed p e) (t2 .0)) ((closed?-iff (made p e .tris)) .0 (not-false (closed? (made p e .tris)) (t3 .0))),
         leb-false capacity (inForce h) (t4 .0),
       )

@@ -30,8 +30,8 @@ abbrev pub thenZero : List ℕ → List ℕ → List ℕ
 thenZero lent l = l ++ replicate (length lent - length l) 0
 
 -- the history of the whole run, and its verdict words
-abbrev pub history : (corners labels entries journal : List ℕ) → History
-history corners labels es journal = after (capacity journal) (begun (lentPair corners labels)) (entries es)
+abbrev pub historyOf : (corners labels entries journal : List ℕ) → History
+historyOf corners labels es journal = after (capacity journal) (begun (lentPair corners labels)) (entries es)
 
-abbrev pub words : (corners labels entries journal : List ℕ) → List ℕ
-words corners labels es journal = verdicts (capacity journal) (begun (lentPair corners labels)) (entries es)
+abbrev pub verdictsOf : (corners labels entries journal : List ℕ) → List ℕ
+verdictsOf corners labels es journal = verdicts (capacity journal) (begun (lentPair corners labels)) (entries es)

@@ -1,0 +1,134 @@
+-- `editing::edit` meets its contract: at each end the lists are what `EditRun` says.
+use denote.Ref.{now}
+use Rattle.editing.proofs.Call.{refused-surface, no-threes, no-word-each, starting, edited}
+use borrow.Author.Needs.{needs}
+use Rattle.editing.proofs.edit.Statement.{statement}
+use Rattle.editing.proofs.edit.Tie as tie
+
+admitted-requires : tie.Need-admitted-requires
+admitted-requires c κs = search needs
+
+same-length : tie.Need-same-length
+same-length c = search needs
+
+same-length-2 : tie.Need-same-length-2
+same-length-2 c = search needs
+
+same-length-3 : tie.Need-same-length-3
+same-length-3 c = search needs
+
+returns : tie.Need-returns
+returns c =
+    let a = c .before .before .before in
+    let s = a .before .before .before .before .before .before .before .before .before .before .before in
+    refused-surface (now (s .args .points)) (now (s .args .corners)) (now (s .args .labels)) (now (s .args .work)) (now (s .args .entries)) (now (s .args .verdicts)) (now (s .args .journal)) (a .admitted .ensures) (c .if1 .taken)
+
+same-length-4 : tie.Need-same-length-4
+same-length-4 c = search needs
+
+same-length-5 : tie.Need-same-length-5
+same-length-5 c = search needs
+
+same-length-6 : tie.Need-same-length-6
+same-length-6 c = search needs
+
+returns-2 : tie.Need-returns-2
+returns-2 c =
+    let a = c .before .before .before .before in
+    let s = a .before .before .before .before .before .before .before .before .before .before .before in
+    no-threes (now (s .args .points)) (now (s .args .corners)) (now (s .args .labels)) (now (s .args .work)) (now (s .args .entries)) (now (s .args .verdicts)) (now (s .args .journal)) (a .admitted .ensures) (c .before .if1 .left) (c .if2 .taken)
+
+same-length-7 : tie.Need-same-length-7
+same-length-7 c = search needs
+
+same-length-8 : tie.Need-same-length-8
+same-length-8 c = search needs
+
+same-length-9 : tie.Need-same-length-9
+same-length-9 c = search needs
+
+returns-3 : tie.Need-returns-3
+returns-3 c =
+    let a = c .before .before .before .before .before in
+    let s = a .before .before .before .before .before .before .before .before .before .before .before in
+    no-word-each (now (s .args .points)) (now (s .args .corners)) (now (s .args .labels)) (now (s .args .work)) (now (s .args .entries)) (now (s .args .verdicts)) (now (s .args .journal)) (a .admitted .ensures) (c .before .before .if1 .left) (c .before .if2 .left) (c .if3 .taken)
+
+clear-requires : tie.Need-clear-requires
+clear-requires c κs = search needs
+
+run-requires : tie.Need-run-requires
+run-requires c κs =
+    let j = c .before .before .before .before .before .before .before in
+    let e = j .before .before in
+    let a = e .before .before .before .before .before in
+    let s = a .before .before .before .before .before .before .before .before .before .before .before in
+    starting (now (s .args .points)) (now (s .args .corners)) (now (s .args .labels)) (now (s .args .work)) (now (s .args .entries)) (now (s .args .verdicts)) (now (s .args .journal)) (a .admitted .ensures) (e .before .before .if1 .left) (e .before .if2 .left) (e .if3 .left) (a .admitted .kept .1 .1 .1 .0) (j .clear .kept .0) (j .clear .ensures)
+
+mul-clear : tie.Need-mul-clear
+mul-clear c = search needs
+
+mul-clear-2 : tie.Need-mul-clear-2
+mul-clear-2 c = search needs
+
+add-clear : tie.Need-add-clear
+add-clear c = search needs
+
+clear-requires-2 : tie.Need-clear-requires-2
+clear-requires-2 c κs = search needs
+
+same-length-10 : tie.Need-same-length-10
+same-length-10 c = search needs
+
+same-length-11 : tie.Need-same-length-11
+same-length-11 c = search needs
+
+same-length-12 : tie.Need-same-length-12
+same-length-12 c = search needs
+
+same-length-13 : tie.Need-same-length-13
+same-length-13 c = search needs
+
+same-length-14 : tie.Need-same-length-14
+same-length-14 c = search needs
+
+returns-4 : tie.Need-returns-4
+returns-4 c =
+    let w = c .before .before in
+    let r = w .before .before .before .before .before .before .before .before .before .before .before .before in
+    let k = r .run .kept in
+    let j = r .before .before .before .before .before .before .before .before in
+    let e = j .before .before in
+    let a = e .before .before .before .before .before in
+    let s = a .before .before .before .before .before .before .before .before .before .before .before in
+    edited (now (s .args .points)) (now (s .args .corners)) (now (s .args .labels)) (now (s .args .work)) (now (s .args .entries)) (now (s .args .verdicts)) (now (s .args .journal)) (a .admitted .ensures) (e .before .before .if1 .left) (e .before .if2 .left) (e .if3 .left) (a .admitted .kept .1 .1 .1 .0) (j .clear .kept .0) (j .clear .ensures)
+    (r .run .ensures) (k .0) (k .1 .0) (k .1 .1 .1 .1 .1 .1 .0) (w .clear2 .ensures)
+
+pub edit-spec : {M : Type 1} → statement M
+edit-spec =
+    tie.close
+    (tie.spec
+    admitted-requires
+    same-length
+    same-length-2
+    same-length-3
+    returns
+    same-length-4
+    same-length-5
+    same-length-6
+    returns-2
+    same-length-7
+    same-length-8
+    same-length-9
+    returns-3
+    clear-requires
+    run-requires
+    mul-clear
+    mul-clear-2
+    add-clear
+    clear-requires-2
+    same-length-10
+    same-length-11
+    same-length-12
+    same-length-13
+    same-length-14
+    returns-4)

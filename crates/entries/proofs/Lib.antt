@@ -1,0 +1,8 @@
+-- The laws that the proofs of the functions cite: `Moved` parts of lists moved forward and back, `Mapped` the triangles changed one by one, `Marks` the walk that is marked,
+-- `Edits` the flip and the collapse on the lists, `Backs` both taken back, `Acts` what an entry came to.
+pub mod Moved
+pub mod Mapped
+pub mod Edits
+pub mod Acts
+pub mod Marks
+pub mod Backs
