@@ -1,10 +1,13 @@
 // The functions that programs in Rust and C link. Slices pass as a pointer and a length, arrays as a
 // pointer. None asks anything of its caller: a bad call is answered with its number.
 use checking::Verdict;
+use editing::Outcome;
 ghost use mathlib.Core.Path.{_≡_};
+ghost use Prim.Native.Nat.{_%_, _^_};
 ghost use lib.Ieee.{binary64};
 ghost use Rattle.float.specs.Root.{root};
 ghost use Rattle.lanovishel.specs.Check.{Checked};
+ghost use Rattle.lanovishel.specs.Edit.{EditCall};
 
 // The square root of IEEE 754.
 #[no_mangle]
@@ -36,4 +39,38 @@ pub extern "C" fn lanovishel_check(
             number
         }
     }
+}
+
+// An edit run: entries of kind, a, b; 0 with triangles left and edits in force, or the number of the
+// question that the call fails.
+#[no_mangle]
+pub extern "C" fn lanovishel_edit(
+    points: &[f64],
+    corners: &mut [u32],
+    labels: &mut [u8],
+    work: &mut [u32],
+    entries: &[u32],
+    verdicts: &mut [u32],
+    journal: &mut [u32],
+    answer: &mut [u32; 2],
+) -> u32
+    ensures { λ r. ⌜ EditCall (now (points .entry)) (now (corners .entry)) (now (labels .entry)) (now (work .entry)) (now (entries .entry)) (now (verdicts .entry)) (now (journal .entry)) (now (corners .exit)) (now (labels .exit)) (now (work .exit)) (now (verdicts .exit)) (now (journal .exit)) (now (answer .exit)) r ⌝ }
+{
+    match editing::edit(points, corners, labels, work, entries, verdicts, journal) {
+        Outcome::Edited(triangles, edits) => {
+            *answer = [low_word(triangles), low_word(edits)];
+            0
+        }
+        Outcome::Refused(number) => {
+            *answer = [0, 0];
+            number
+        }
+    }
+}
+
+// A count as a word.
+fn low_word(n: usize) -> u32
+    ensures { λ r. ⌜ r ≡ n % 2 ^ 32 ⌝ }
+{
+    (n % 4294967296) as u32
 }
