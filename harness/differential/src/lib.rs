@@ -7,6 +7,8 @@ pub mod call;
 pub mod checking;
 pub mod closed;
 pub mod damage;
+pub mod editing;
+pub mod history;
 pub mod questions;
 pub mod random;
 pub mod roots;

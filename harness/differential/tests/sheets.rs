@@ -17,12 +17,13 @@ fn program() -> PathBuf {
     let proved = Command::new("rt")
         .args(["check", "check_sheet"])
         .current_dir(&project)
-        .output();
-    let proved = proved.expect("the Rattle kit's `rt` is on the path");
+        .output()
+        .expect("the Rattle kit's `rt` is on the path");
+    let said = String::from_utf8_lossy(&proved.stdout);
     assert!(
         proved.status.success(),
         "{}",
-        String::from_utf8_lossy(&proved.stdout)
+        said.lines().last().unwrap_or_default()
     );
     project.join("target/bin/check_sheet")
 }

@@ -1,7 +1,7 @@
 //! The vectors of the folder `vectors`, replayed: they stand in where the original is not there.
 use differential::{
     call::Call,
-    checking,
+    checking, editing,
     vectors::{self, Format},
 };
 use std::{fs, path::Path};
@@ -19,4 +19,9 @@ fn replay(name: &str, format: Format, ours: fn(&Call) -> Call) {
 #[test]
 fn of_checking() {
     replay("check.words", vectors::CHECK, checking::ours);
+}
+
+#[test]
+fn of_editing() {
+    replay("edit.words", vectors::EDIT, editing::ours);
 }

@@ -3,11 +3,13 @@
 //! Every function answers for every input: nothing here panics, and no call reads or writes
 //! outside the slices that it is lent.
 mod check;
+mod edit;
 mod refused;
 mod root;
 
 pub mod raw;
 
 pub use check::{Measured, check, work_words};
+pub use edit::{Edited, edit};
 pub use refused::Refused;
 pub use root::sqrt;

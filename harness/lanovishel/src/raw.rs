@@ -19,4 +19,23 @@ unsafe extern "C" {
         work_words: usize,
         numbers: *mut [f64; 2],
     ) -> u32;
+
+    /// A run of entries; see [`crate::edit`].
+    pub fn lanovishel_edit(
+        points: *const f64,
+        point_values: usize,
+        corners: *mut u32,
+        corner_numbers: usize,
+        labels: *mut u8,
+        label_count: usize,
+        work: *mut u32,
+        work_words: usize,
+        entries: *const u32,
+        entry_words: usize,
+        verdicts: *mut u32,
+        verdict_words: usize,
+        journal: *mut u32,
+        journal_words: usize,
+        answer: *mut [u32; 2],
+    ) -> u32;
 }

@@ -2,7 +2,7 @@
 //! vectors: `cargo run -p differential --bin vectors -- FOLDER`.
 use differential::{
     call::Call,
-    checking,
+    checking, editing,
     random::Random,
     vectors::{self, Format},
 };
@@ -58,5 +58,10 @@ fn main() {
     write(
         "check.words",
         sample(vectors::CHECK, 24, checking::random_call, check),
+    );
+    let edit = |before: &Call| Some(editing::model(before));
+    write(
+        "edit.words",
+        sample(vectors::EDIT, 40, editing::random_call, edit),
     );
 }
