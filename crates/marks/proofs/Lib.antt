@@ -1,0 +1,2 @@
+-- The turns of the loops, over plain lists.
+pub mod Turns

@@ -1,0 +1,41 @@
+-- Where our rounds are the original's (document 01, "Round"): the original collapses no side of a piece of just four corners. Definitions only.
+use Prim.Native.Nat.{ℕ, suc}
+use mathlib.Core.Path.{_≡_}
+use mathlib.Core.Bool.{true, false}
+use mathlib.Core.List.{List, List·Memᴰ}
+use Rattle.surface.specs.Triangle.{Tri}
+use Rattle.rounds.specs.Choices.{Decision, filled, collapseStart}
+use Rattle.oracle.specs.Candidates.{candidates}
+use Rattle.oracle.specs.Slivers.{deciding, collapses}
+use Rattle.oracle.specs.Round.{Mesh, Sheet, seen, count, round}
+
+-- a piece of just four corners: they differ, and each three of them have a triangle. (A closed list has no other triangle on any of the four then.)
+pub record Four (ts : List Tri) (a b c d : ℕ) : Type 0 where
+  pub ab : a ≡ b → ⊥
+  pub ac : a ≡ c → ⊥
+  pub ad : a ≡ d → ⊥
+  pub bc : b ≡ c → ⊥
+  pub bd : b ≡ d → ⊥
+  pub cd : c ≡ d → ⊥
+  pub abc : filled ts a b c ≡ true
+  pub abd : filled ts a b d ≡ true
+  pub acd : filled ts a c d ≡ true
+  pub bcd : filled ts b c d ≡ true
+
+-- the collapses of the original's round, in their order
+abbrev pub originals : Sheet → Mesh → List Decision
+originals f m = let s = seen f (m .points) in collapses false s (m .pair) (collapseStart (m .pair)) (candidates s (m .pair) (count m))
+
+-- The original collapses no side of a piece of just four corners with which the round begins. (A piece to which the round has come by its collapses has touched corners only: no side of it is collapsed.)
+abbrev pub Spared : Sheet → Mesh → Type 0
+Spared f m = (a b c d : ℕ) → List·Memᴰ (deciding a b) (originals f m) → Four (m .pair .tris) a b c d → ⊥
+
+-- and so in each of n rounds of the original's
+pub data Domain (f : Sheet) : ℕ → Mesh → Type 0 where
+  begun : {m : Mesh} → Domain f 0 m
+  further : {n : ℕ} {m : Mesh} → Spared f m → Domain f n (round false f m .mesh) → Domain f (suc n) m
+
+-- as document 01 has it: no round of the original's begins with such a piece. This alone is enough (proofs/Domain: no-four-domain).
+pub data NoFour (f : Sheet) : ℕ → Mesh → Type 0 where
+  none-met : {m : Mesh} → NoFour f 0 m
+  none-further : {n : ℕ} {m : Mesh} → ((a b c d : ℕ) → Four (m .pair .tris) a b c d → ⊥) → NoFour f n (round false f m .mesh) → NoFour f (suc n) m

@@ -1,0 +1,59 @@
+-- `vectors::lend` meets its contract. The loop's invariant: the first `i` places are stored, and the others as lent. Assumes nothing.
+use Prim.Native.Nat.{_+_, _-_, _*_}
+use native.Mathlib.Omega.{arith}
+use borrow.Author.Needs.{needs}
+use lib.ListN.{length, length-set}
+use mathlib.Core.Path.{_≡_, ap, _∙_}
+use Rattle.vectors.specs.Words.{lentAt}
+use Rattle.vectors.proofs.Lists.{Filled, fill-none, fill-more, fill-all}
+use Rattle.vectors.proofs.lend.Statement.{statement}
+use Rattle.vectors.proofs.lend.Tie as tie
+
+abbrev Inv-loop : tie.InvT-loop
+Inv-loop list₀ i₀ list i = Filled lentAt 1 0 i list₀ list
+
+abbrev μ-loop : tie.MeasureT-loop
+μ-loop list₀ i₀ list i = length list - i
+
+loop-holds : tie.Need-loop-holds Inv-loop μ-loop
+loop-holds c = fill-none _ _ _ _
+
+lent-requires : tie.Need-lent-requires Inv-loop μ-loop
+lent-requires c κs = tt
+
+mul-list : tie.Need-mul-list Inv-loop μ-loop
+mul-list c = search needs
+
+slice-write-list : tie.Need-slice-write-list Inv-loop μ-loop
+slice-write-list c = omega arith
+
+add-i : tie.Need-add-i Inv-loop μ-loop
+add-i c = omega arith
+
+loop-less : tie.Need-loop-less Inv-loop μ-loop
+loop-less c = simp length-set (omega arith)
+
+loop-again : tie.Need-loop-again Inv-loop μ-loop
+loop-again c = let L = c .before .before .loop in let e : L .i ≡ 0 + L .i * 1 = omega arith in fill-more _ _ _ (L .i) _ (L .list) (c .lent .result) (L .inv) (c .before .loop-test .taken) (c .lent .ensures ∙ ap lentAt e)
+
+same-length : tie.Need-same-length Inv-loop μ-loop
+same-length c = c .before .loop .inv .long
+
+returns : tie.Need-returns Inv-loop μ-loop
+returns c = let L = c .before .loop in fill-all _ _ _ (L .i) _ (L .list) (L .inv) (c .loop-test .left)
+
+pub lend-spec : {M : Type 1} → statement M
+lend-spec =
+    tie.close
+    (tie.spec
+    Inv-loop
+    μ-loop
+    loop-holds
+    lent-requires
+    mul-list
+    slice-write-list
+    add-i
+    loop-less
+    loop-again
+    same-length
+    returns)

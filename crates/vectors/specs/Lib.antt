@@ -1,0 +1,2 @@
+-- `Words`: the words of a text, and the lists that stand in it.
+pub mod Words

@@ -1,0 +1,2 @@
+-- `Float`: a float kept in two words.
+pub mod Float
