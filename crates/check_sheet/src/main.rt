@@ -27,7 +27,8 @@ fn verdict(text: &[u8]) -> Verdict {
     let mut corners = [0u32; 768];
     let mut labels = [0u8; 256];
     let mut work = [0u32; 10240];
-    let sheet::Answer::Sheet(n, m) = sheet::read(text, &mut points, &mut corners, &mut labels) else {
+    let sheet::Answer::Sheet(n, m) = sheet::read(text, &mut points, &mut corners, &mut labels)
+    else {
         return Verdict::Refused(16);
     };
     checking::validate(&points[..n * 3], &corners[..m * 3], &labels[..m], &mut work)

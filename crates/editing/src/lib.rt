@@ -10,7 +10,6 @@ ghost use Rattle.editing.specs.Run.{Starting, Ran};
 ghost use Rattle.editing.specs.Edit.{EditRun};
 use entries::Came;
 
-
 // The record at place k of the journal.
 fn read_record(journal: &[u32], k: usize) -> [u32; 12]
     requires { ⌜ 12 * k + 12 ≤ length (now journal) ⌝ }

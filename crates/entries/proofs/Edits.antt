@@ -90,9 +90,9 @@ module _ {l ls : List ℕ} {n a b : ℕ} (f : Found) (h : Hung l ls n a b f) {l1
       record {
         count = omega arith;
         is = λ q. record {
-              tris = (tris-made ∙ ap (λ (g : Hinge). map (renamed a b) (without (g .p1) (without (g .p2) (held l n)))) (h .is)) q;
-              labels = (labels-made ∙ ap (λ (g : Hinge). without (g .p1) (without (g .p2) (take n ls))) (h .is)) q;
-            };
+          tris = (tris-made ∙ ap (λ (g : Hinge). map (renamed a b) (without (g .p1) (without (g .p2) (held l n)))) (h .is)) q;
+          labels = (labels-made ∙ ap (λ (g : Hinge). without (g .p1) (without (g .p2) (take n ls))) (h .is)) q;
+        };
         freed = λ z. forward-zero (3 * (n - 2)) m3 (omega arith)
             (subst (λ (k : ℕ). Zero k l2) (sym j) (forward-zero (3 * (n - 1)) m2 (omega arith) (subst (λ (k : ℕ). Zero k l1) (sym i) (drop-same-zero (3 * n) l l1 (m1 .rest) z))));
         unlabelled = λ z. forward-zero (n - 2) n2 (omega arith) (subst (λ (k : ℕ). Zero k ls1) (sym j′) (forward-zero (n - 1) n1 (omega arith) (subst (λ (k : ℕ). Zero k ls) (sym i′) z)));

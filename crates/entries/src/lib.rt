@@ -3,13 +3,13 @@ use closing::clear;
 use places::wide;
 use surface::put_triangle;
 use surface::triangle_at;
+use verdicts::Found;
 use verdicts::collapse_word;
 use verdicts::first_on;
 use verdicts::flip_word;
 use verdicts::hinge_of;
 use verdicts::note_steps;
 use verdicts::record_of;
-use verdicts::Found;
 ghost use mathlib.Core.Path.{_≡_};
 ghost use mathlib.Core.List.{List, map, _++_};
 ghost use mathlib.Core.Bool.{cond};
@@ -146,7 +146,11 @@ fn put_for(a: u32, b: u32, x: u32) -> u32
 fn renamed_in(t: [u32; 3], a: u32, b: u32) -> [u32; 3]
     ensures { λ r. ⌜ triOf r ≡ renamed a b (triOf t) ⌝ }
 {
-    [put_for(a, b, t[0]), put_for(a, b, t[1]), put_for(a, b, t[2])]
+    [
+        put_for(a, b, t[0]),
+        put_for(a, b, t[1]),
+        put_for(a, b, t[2]),
+    ]
 }
 
 fn rename_all(corners: &mut [u32], n: usize, a: u32, b: u32)
@@ -197,12 +201,20 @@ pub fn flip_entry(
 {
     let p1 = first_on(corners, n, 0, a, b);
     if p1 == n {
-        return Came { verdict: 22, n, words: [0; 12] };
+        return Came {
+            verdict: 22,
+            n,
+            words: [0; 12],
+        };
     }
     let h = hinge_of(corners, n, p1, a, b);
     let verdict = flip_word(corners, labels, n, a, b, h, space);
     if verdict != 0 {
-        return Came { verdict, n, words: [0; 12] };
+        return Came {
+            verdict,
+            n,
+            words: [0; 12],
+        };
     }
     let words = record_of(corners, labels, n, 1, a, b, h);
     flip_in(corners, h);
@@ -225,16 +237,28 @@ pub fn collapse_entry(
 {
     let p1 = first_on(corners, n, 0, a, b);
     if p1 == n {
-        return Came { verdict: 22, n, words: [0; 12] };
+        return Came {
+            verdict: 22,
+            n,
+            words: [0; 12],
+        };
     }
     let h = hinge_of(corners, n, p1, a, b);
     let verdict = collapse_word(corners, labels, n, &mut work[..points], a, b, h, space);
     if verdict != 0 {
-        return Came { verdict, n, words: [0; 12] };
+        return Came {
+            verdict,
+            n,
+            words: [0; 12],
+        };
     }
     let words = record_of(corners, labels, n, 2, a, b, h);
     let m = collapse_in(corners, labels, n, a, b, h);
-    Came { verdict, n: m, words }
+    Came {
+        verdict,
+        n: m,
+        words,
+    }
 }
 
 // x where the word k is 1, else y.
@@ -345,7 +369,14 @@ fn restore_all(corners: &mut [u32], n: usize, notes: &[u32], points: usize, a: u
 }
 
 // A collapse is taken back: the triangles on the walk get b again, and p1 and p2 come in with their labels. The number of triangles then.
-fn uncollapse(corners: &mut [u32], labels: &mut [u8], n: usize, notes: &mut [u32], points: usize, words: [u32; 12]) -> usize
+fn uncollapse(
+    corners: &mut [u32],
+    labels: &mut [u8],
+    n: usize,
+    notes: &mut [u32],
+    points: usize,
+    words: [u32; 12],
+) -> usize
     requires { ⌜ Uncollapses (now corners) (now labels) n words ⌝ }
     requires { ⌜ Listed (now corners) n points ⌝ }
     requires { ⌜ length (now notes) ≡ points + points ⌝ }
@@ -365,7 +396,14 @@ fn uncollapse(corners: &mut [u32], labels: &mut [u8], n: usize, notes: &mut [u32
 }
 
 // The last edit in force is taken back by its record; the number of triangles then.
-pub fn take_back(corners: &mut [u32], labels: &mut [u8], work: &mut [u32], points: usize, n: usize, words: [u32; 12]) -> usize
+pub fn take_back(
+    corners: &mut [u32],
+    labels: &mut [u8],
+    work: &mut [u32],
+    points: usize,
+    n: usize,
+    words: [u32; 12],
+) -> usize
     requires { ⌜ Standing (now corners) (now labels) n points (now work) ⌝ }
     requires { ⌜ Undoable points (length (now labels)) words (pairOf (now corners) (now labels) n) ⌝ }
     ensures { λ m. ⌜ TakenBack points (now (corners .entry)) (now (labels .entry)) n (now (work .entry)) words (now (corners .exit)) (now (labels .exit)) m (now (work .exit)) ⌝ }

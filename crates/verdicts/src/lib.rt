@@ -356,7 +356,15 @@ fn covers(corners: &[u32], labels: &[u8], n: usize, a: u32, b: u32) -> bool
 }
 
 // The verdict word of a flip of an existing side.
-pub fn flip_word(corners: &[u32], labels: &[u8], n: usize, a: u32, b: u32, h: Found, space: bool) -> u32
+pub fn flip_word(
+    corners: &[u32],
+    labels: &[u8],
+    n: usize,
+    a: u32,
+    b: u32,
+    h: Found,
+    space: bool,
+) -> u32
     requires { ⌜ Hung (now corners) (now labels) n a b h ⌝ }
     ensures { λ r. ⌜ r ≡ flipWord (pairOf (now (corners .entry)) (now (labels .entry)) n) a b space ⌝ }
 {
@@ -372,7 +380,16 @@ pub fn flip_word(corners: &[u32], labels: &[u8], n: usize, a: u32, b: u32, h: Fo
 }
 
 // The verdict word of a collapse of an existing side. `notes` has a word for each point.
-pub fn collapse_word(corners: &[u32], labels: &[u8], n: usize, notes: &mut [u32], a: u32, b: u32, h: Found, space: bool) -> u32
+pub fn collapse_word(
+    corners: &[u32],
+    labels: &[u8],
+    n: usize,
+    notes: &mut [u32],
+    a: u32,
+    b: u32,
+    h: Found,
+    space: bool,
+) -> u32
     requires { ⌜ Hung (now corners) (now labels) n a b h ⌝ }
     requires { ⌜ Listed (now corners) n (length (now notes)) ⌝ }
     requires { ⌜ Labelled (now corners) (now labels) n ⌝ }
@@ -402,7 +419,15 @@ fn label_word(x: u8) -> u32
 }
 
 // The record of the edit of a side.
-pub fn record_of(corners: &[u32], labels: &[u8], n: usize, kind: u32, a: u32, b: u32, h: Found) -> [u32; 12]
+pub fn record_of(
+    corners: &[u32],
+    labels: &[u8],
+    n: usize,
+    kind: u32,
+    a: u32,
+    b: u32,
+    h: Found,
+) -> [u32; 12]
     requires { ⌜ Hung (now corners) (now labels) n a b h ⌝ }
     ensures { λ r. ⌜ r ≡ words (pairOf (now (corners .entry)) (now (labels .entry)) n) (entryOf kind a b) ⌝ }
 {
@@ -413,5 +438,18 @@ pub fn record_of(corners: &[u32], labels: &[u8], n: usize, kind: u32, a: u32, b:
     let l1 = label_word(labels[i]);
     let l2 = label_word(labels[j]);
     let ahead = ahead_of(h.u, a);
-    [kind, a, b, h.c, h.d, i as u32, j as u32, s1, s2, l1, l2, ahead]
+    [
+        kind,
+        a,
+        b,
+        h.c,
+        h.d,
+        i as u32,
+        j as u32,
+        s1,
+        s2,
+        l1,
+        l2,
+        ahead,
+    ]
 }

@@ -42,8 +42,11 @@ loop-less : tie.Need-loop-less Inv-loop μ-loop
 loop-less c = search needs
 
 loop-again : tie.Need-loop-again Inv-loop μ-loop
-loop-again c = (search needs, all-on (c .before .before .before .before .before .before .before .args .corners .now) (c .before .before .before .before .before .before .before .args .n) (c .before .before .before .before .loop .i) (c .before .before .before .before .before .before .before .args .a) (c .before .before .before .before .before .before .before .pre .room) (c .before .before .before .loop-test .taken) (c .before .before .triangle-at .result) (c .before .before .triangle-at .ensures)
-    (λ (s : Step). apartBy (c .before .before .before .before .before .before .before .args .notes .now) (c .before .before .before .before .before .before .before .args .c) (c .before .before .before .before .before .before .before .args .d) (s .from)) _ (c .before .before .before .before .loop .inv .1) (c .before .apart-in .result) (c .before .apart-in .ensures) (not-false _ (c .if1 .left)))
+loop-again c = (
+  search needs,
+  all-on (c .before .before .before .before .before .before .before .args .corners .now) (c .before .before .before .before .before .before .before .args .n) (c .before .before .before .before .loop .i) (c .before .before .before .before .before .before .before .args .a) (c .before .before .before .before .before .before .before .pre .room) (c .before .before .before .loop-test .taken) (c .before .before .triangle-at .result) (c .before .before .triangle-at .ensures)
+      (λ (s : Step). apartBy (c .before .before .before .before .before .before .before .args .notes .now) (c .before .before .before .before .before .before .before .args .c) (c .before .before .before .before .before .before .before .args .d) (s .from)) _ (c .before .before .before .before .loop .inv .1) (c .before .apart-in .result) (c .before .apart-in .ensures) (not-false _ (c .if1 .left)),
+)
 
 returns-2 : tie.Need-returns-2 Inv-loop μ-loop
 unfolding every

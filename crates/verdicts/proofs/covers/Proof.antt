@@ -1,4 +1,3 @@
-
 use borrow.Author.Needs.{needs}
 use Rattle.verdicts.proofs.Cover.{cover-law, cover-stop, cover-on, cover-end, small-here}
 use Rattle.surface.specs.Flat.{held}
