@@ -24,4 +24,17 @@ uint32_t lanovishel_check(const double *points, size_t point_values,
                           uint32_t *work, size_t work_words,
                           double numbers[2]);
 
+/* An edit run: entries of three words each, kind, a, b (1 flips side a b; 2 keeps a and removes b; 3 takes back
+ * the last a edits, b is 0), one verdict word per entry, twelve journal words for each edit that may be in force.
+ * 0 with triangles left and edits in force in answer; else the number of the question that the call fails, and
+ * answer is 0. corners and labels then hold the surface that is left, then 0. */
+uint32_t lanovishel_edit(const double *points, size_t point_values,
+                         uint32_t *corners, size_t corner_numbers,
+                         uint8_t *labels, size_t label_count,
+                         uint32_t *work, size_t work_words,
+                         const uint32_t *entries, size_t entry_words,
+                         uint32_t *verdicts, size_t verdict_words,
+                         uint32_t *journal, size_t journal_words,
+                         uint32_t answer[2]);
+
 #endif
