@@ -2,7 +2,8 @@
 use Prim.Native.Nat.{ℕ, zero, suc, _+_, _*_, _≤_, _<_}
 use native.Mathlib.Nat.{mul-one}
 use mathlib.Core.Path.{_≡_, refl, sym, ap, ap₂, _∙_, subst}
-use mathlib.Core.Bool.{Bool, true, false}
+use mathlib.Core.Bool.{Bool, true, false, false≢true}
+use mathlib.Core.Logic.{_↔_}
 use mathlib.Core.List.{List, [], _∷_, _++_, append-nil}
 use native.Mathlib.Omega.{arith}
 use native.Mathlib.Numerals.{add-one}
@@ -10,7 +11,7 @@ use lib.Dec.{ltb}
 use lib.ListN.{length, getD, take, drop, set, length-append, length-set, drop-of-length-le, List·getD-append}
 use lib.Seq.{length-take-le, drop-cons, set-at, append-snoc, take-suc, take-all, getD-at}
 use borrow.Author.Tests.{ltb-true, ltb-false}
-use Rattle.vectors.specs.Words.{elements}
+use Rattle.vectors.specs.Words.{countOf, wordAt, elements, IsAt}
 
 -- elements of one word each
 pub by-one : {A : Type 0} (at : ℕ → A) (k i : ℕ) (a : A) → a ≡ at (k + i) → a ≡ at (k + i * 1)
@@ -100,3 +101,18 @@ module _ {A : Type 0} (at : ℕ → A) (width k : ℕ) where
   -- a front that was read, and what follows it as lent
   pub front : (n : ℕ) (lent l : List A) → n ≤ length lent → l ≡ elements at width k (length (take n lent)) → l ++ drop n lent ≡ elements at width k n ++ drop n lent
   front n lent l h e = ap (λ (r : List A). r ++ drop n lent) (e ∙ ap (elements at width k) (length-take-le n lent h))
+
+-- ---- whether a list is the one at word k
+
+module _ {A : Type 0} (at : ℕ → A) (width : ℕ) (text : List ℕ) (k : ℕ) (l : List A) where
+  pub no-list : countOf text ≤ k → (false ≡ true) ↔ IsAt at width text k l
+  no-list h = (λ e. absurd (false≢true e), λ w. absurd (omega (arith, w .there)))
+
+  pub other-length : (n : ℕ) → n ≡ wordAt text k → (n ≡ length l → ⊥) → (false ≡ true) ↔ IsAt at width text k l
+  other-length n g h = (λ e. absurd (false≢true e), λ w. absurd (h (g ∙ w .long)))
+
+  pub other-element : (i : ℕ) (d : A) → i < length l → (getD l i d ≡ at (k + 1 + i * width) → ⊥) → (false ≡ true) ↔ IsAt at width text k l
+  other-element i d h g = (λ e. absurd (false≢true e), λ w. absurd (g (at-place at width (k + 1) i l d h (w .list))))
+
+  pub same-list : (n i : ℕ) → k < countOf text → n ≡ wordAt text k → n ≡ length l → Agrees at width (k + 1) i l → length l ≤ i → (true ≡ true) ↔ IsAt at width text k l
+  same-list n i h g e a f = (λ _. record { there = h; long = sym g ∙ e; list = agree-all at width (k + 1) i l a f }, λ _. refl)

@@ -1,74 +1,79 @@
+-- `vectors::is_bytes` meets its contract. The loop's invariant: the first `i` are as they must be. Assumes nothing.
+use Prim.Native.Nat.{ℕ, _+_, _-_, _*_, _%_}
+use mathlib.Core.Path.{_≡_, sym, ap, _∙_}
+use native.Mathlib.Omega.{arith}
+use borrow.Author.Needs.{needs}
+use lib.ListN.{length}
+use Rattle.vectors.specs.Words.{byteAt}
+use Rattle.vectors.proofs.Lists.{Agrees, agree-none, agree-more, no-list, other-length, other-element, same-list, by-one}
 use Rattle.vectors.proofs.is_bytes.Statement.{statement}
 use Rattle.vectors.proofs.is_bytes.Tie as tie
-use Rattle.vectors.proofs.is_bytes.Reads as reads
-use Rattle.vectors.proofs.is_bytes.Lts as lts
-use Rattle.vectors.proofs.word.Reads as word-reads
 
 abbrev Inv-loop : tie.InvT-loop
-Inv-loop text k list i₀ i = ?
+Inv-loop text k list i₀ i = Agrees (byteAt text) 1 (k + 1) i list
 
 abbrev μ-loop : tie.MeasureT-loop
-μ-loop text k list i₀ i = ?
+μ-loop text k list i₀ i = length list - i
 
--- src/lib.rt:203:9
+-- what is compared with the element at i
+wanted : (c : tie.After-word2 Inv-loop μ-loop) → let L = c .before .before .before in let S = L .before .before .before .before .before .before in c .word2 .result % 256 ≡ byteAt (S .args .text .now) (S .args .k + 1 + L .loop .i * 1)
+wanted c =
+    let L = c .before .before .before in
+    let S = L .before .before .before .before .before .before in
+    by-one (byteAt (S .args .text .now)) (S .args .k + 1) (L .loop .i) _ (ap (λ (n : ℕ). n % 256) (c .word2 .ensures))
+
 returns : tie.Need-returns Inv-loop μ-loop
-returns c = ?
+returns c = no-list _ _ _ _ _ (c .if1 .taken)
 
--- src/lib.rt:205:9
 word-requires : tie.Need-word-requires Inv-loop μ-loop
-word-requires c κs = ?
+word-requires c κs = tt
 
--- src/lib.rt:205:9
 cast-if2 : tie.Need-cast-if2 Inv-loop μ-loop
-cast-if2 c = ?
+cast-if2 c = search needs
 
--- src/lib.rt:206:9
 returns-2 : tie.Need-returns-2 Inv-loop μ-loop
-returns-2 c = ?
+returns-2 c = other-length _ _ _ _ _ (c .before .word .result) (c .before .word .ensures) (c .if2 .taken)
 
--- src/lib.rt:209:5
 loop-holds : tie.Need-loop-holds Inv-loop μ-loop
-loop-holds c = ?
+loop-holds c = agree-none _ _ _ _
 
--- src/lib.rt:210:12
 shared-slice-read-if3 : tie.Need-shared-slice-read-if3 Inv-loop μ-loop
-shared-slice-read-if3 c = ?
+shared-slice-read-if3 c = omega arith
 
--- src/lib.rt:210:35
 add-word : tie.Need-add-word Inv-loop μ-loop
-add-word c = ?
+add-word c = omega arith
 
--- src/lib.rt:210:35
 add-word-2 : tie.Need-add-word-2 Inv-loop μ-loop
-add-word-2 c = ?
+add-word-2 c = let S = c .before .before .before .before .before .before .before .before in omega (arith, S .good)
 
--- src/lib.rt:210:24
 word-requires-2 : tie.Need-word-requires-2 Inv-loop μ-loop
-word-requires-2 c κs = ?
+word-requires-2 c κs = tt
 
--- src/lib.rt:210:23
 cast-if3 : tie.Need-cast-if3 Inv-loop μ-loop
-cast-if3 c = ?
+cast-if3 c = search needs
 
--- src/lib.rt:211:13
 returns-3 : tie.Need-returns-3 Inv-loop μ-loop
-returns-3 c = ?
+returns-3 c =
+    let I = c .before .before .before in
+    other-element _ _ _ _ _ (I .before .loop .i) 0 (I .loop-test .taken) (λ e. c .if3 .taken (e ∙ sym (wanted (c .before))))
 
--- src/lib.rt:213:9
 add-i : tie.Need-add-i Inv-loop μ-loop
-add-i c = ?
+add-i c = omega arith
 
--- src/lib.rt:209:5
 loop-less : tie.Need-loop-less Inv-loop μ-loop
-loop-less c = ?
+loop-less c = omega arith
 
--- src/lib.rt:209:5
 loop-again : tie.Need-loop-again Inv-loop μ-loop
-loop-again c = ?
+loop-again c =
+    let I = c .before .before .before in
+    agree-more _ _ _ (I .before .loop .i) _ 0 (I .before .loop .inv) (I .loop-test .taken) (c .if3 .left ∙ wanted (c .before))
 
--- src/lib.rt:199:1
 returns-4 : tie.Need-returns-4 Inv-loop μ-loop
-returns-4 c = ?
+returns-4 c =
+    let L = c .before in
+    let E = L .before in
+    let w = E .before .word in
+    same-list _ _ _ _ _ (w .result) (L .loop .i) (E .before .before .if1 .left) (w .ensures) (E .if2 .left) (L .loop .inv) (c .loop-test .left)
 
 pub is-bytes-spec : {M : Type 1} → statement M
 is-bytes-spec =

@@ -1,84 +1,81 @@
+-- `vectors::is_floats` meets its contract. The loop's invariant: the first `i` are as they must be. Assumes nothing.
+use Prim.Native.Nat.{_+_, _-_}
+use mathlib.Core.Path.{sym, _∙_}
+use mathlib.Core.Bool.{true≢false}
+use native.Mathlib.Omega.{arith}
+use borrow.Author.Needs.{needs}
+use borrow.Author.Tests.{not-true, not-false}
+use lib.ListN.{length}
+use lib.Ieee.{nan}
+use Rattle.vectors.specs.Words.{floatAt}
+use Rattle.vectors.proofs.Lists.{Agrees, agree-none, agree-more, no-list, other-length, other-element, same-list}
 use Rattle.vectors.proofs.is_floats.Statement.{statement}
 use Rattle.vectors.proofs.is_floats.Tie as tie
-use Rattle.vectors.proofs.is_floats.Reads as reads
-use Rattle.vectors.proofs.is_floats.Lts as lts
-use Rattle.vectors.proofs.float.Reads as float-reads
-use Rattle.vectors.proofs.same.Reads as same-reads
-use Rattle.vectors.proofs.word.Reads as word-reads
 
 abbrev Inv-loop : tie.InvT-loop
-Inv-loop text k list i₀ i = ?
+Inv-loop text k list i₀ i = Agrees (floatAt text) 2 (k + 1) i list
 
 abbrev μ-loop : tie.MeasureT-loop
-μ-loop text k list i₀ i = ?
+μ-loop text k list i₀ i = length list - i
 
--- src/lib.rt:223:9
 returns : tie.Need-returns Inv-loop μ-loop
-returns c = ?
+returns c = no-list _ _ _ _ _ (c .if1 .taken)
 
--- src/lib.rt:225:9
 word-requires : tie.Need-word-requires Inv-loop μ-loop
-word-requires c κs = ?
+word-requires c κs = tt
 
--- src/lib.rt:225:9
 cast-if2 : tie.Need-cast-if2 Inv-loop μ-loop
-cast-if2 c = ?
+cast-if2 c = search needs
 
--- src/lib.rt:226:9
 returns-2 : tie.Need-returns-2 Inv-loop μ-loop
-returns-2 c = ?
+returns-2 c = other-length _ _ _ _ _ (c .before .word .result) (c .before .word .ensures) (c .if2 .taken)
 
--- src/lib.rt:229:5
 loop-holds : tie.Need-loop-holds Inv-loop μ-loop
-loop-holds c = ?
+loop-holds c = agree-none _ _ _ _
 
--- src/lib.rt:230:18
 mul-same : tie.Need-mul-same Inv-loop μ-loop
-mul-same c = ?
+mul-same c = search needs
 
--- src/lib.rt:230:18
 shared-slice-read-same : tie.Need-shared-slice-read-same Inv-loop μ-loop
-shared-slice-read-same c = ?
+shared-slice-read-same c = omega arith
 
--- src/lib.rt:230:39
 add-float : tie.Need-add-float Inv-loop μ-loop
-add-float c = ?
+add-float c = omega arith
 
--- src/lib.rt:230:47
 mul-float : tie.Need-mul-float Inv-loop μ-loop
-mul-float c = ?
+mul-float c = let S = c .before .before .before .before .before .before .before .before in omega (arith, S .good)
 
--- src/lib.rt:230:39
 add-float-2 : tie.Need-add-float-2 Inv-loop μ-loop
-add-float-2 c = ?
+add-float-2 c = let S = c .before .before .before .before .before .before .before .before in omega (arith, S .good)
 
--- src/lib.rt:230:27
 float-requires : tie.Need-float-requires Inv-loop μ-loop
-float-requires c κs = ?
+float-requires c κs = tt
 
--- src/lib.rt:230:13
 same-requires : tie.Need-same-requires Inv-loop μ-loop
-same-requires c κs = ?
+same-requires c κs = tt
 
--- src/lib.rt:231:13
 returns-3 : tie.Need-returns-3 Inv-loop μ-loop
-returns-3 c = ?
+returns-3 c =
+    let I = c .before .before .before .before in
+    other-element _ _ _ _ _ (I .before .loop .i) nan (I .loop-test .taken) (λ e. true≢false (sym (c .before .same .ensures .1 (e ∙ sym (c .before .before .float .ensures))) ∙ not-true _ (c .if3 .taken)))
 
--- src/lib.rt:233:9
 add-i : tie.Need-add-i Inv-loop μ-loop
-add-i c = ?
+add-i c = omega arith
 
--- src/lib.rt:229:5
 loop-less : tie.Need-loop-less Inv-loop μ-loop
-loop-less c = ?
+loop-less c = omega arith
 
--- src/lib.rt:229:5
 loop-again : tie.Need-loop-again Inv-loop μ-loop
-loop-again c = ?
+loop-again c =
+    let I = c .before .before .before .before in
+    agree-more _ _ _ (I .before .loop .i) _ nan (I .before .loop .inv) (I .loop-test .taken) (c .before .same .ensures .0 (not-false _ (c .if3 .left)) ∙ c .before .before .float .ensures)
 
--- src/lib.rt:219:1
 returns-4 : tie.Need-returns-4 Inv-loop μ-loop
-returns-4 c = ?
+returns-4 c =
+    let L = c .before in
+    let E = L .before in
+    let w = E .before .word in
+    same-list _ _ _ _ _ (w .result) (L .loop .i) (E .before .before .if1 .left) (w .ensures) (E .if2 .left) (L .loop .inv) (c .loop-test .left)
 
 pub is-floats-spec : {M : Type 1} → statement M
 is-floats-spec =
