@@ -1,0 +1,2 @@
+-- What the needs ask, over plain lists.
+pub mod Turns
