@@ -1,4 +1,4 @@
--- Words cleared in a part of a list, word by word.
+-- A part of the words that is lent and put back: words cleared in it, and chains made in it.
 use Prim.Native.Nat.{ℕ, zero, suc, _+_, _-_, _<_, _≤_}
 use native.Mathlib.Omega.{arith}
 use mathlib.Core.Path.{_≡_, refl, sym, ap, _∙_, subst}
@@ -6,7 +6,8 @@ use mathlib.Core.List.{List, [], _∷_, _++_, append-assoc, append-nil}
 use lib.ListN.{length, take, drop, replicate, length-replicate, getD-replicate, List·getD-append, length-append, length-take, length-drop, drop-of-length-le}
 use lib.Seq.{getD-append-add, getD-drop, getD-take, take-all, length-take-le, drop-drop}
 use Rattle.places.specs.Place.{at}
-use Rattle.chains.specs.Marks.{Cleared}
+use Rattle.chains.specs.Chain.{Chained}
+use Rattle.chains.specs.Marks.{Cleared, chained-part}
 
 -- a word of a joined list, before the join and behind it
 pub at-front : (a b : List ℕ) (n j : ℕ) → length a ≡ n → j < n → at (a ++ b) j ≡ at a j
@@ -66,3 +67,18 @@ clear-part base p w v w′ room e f = record {
 
             last : at (drop p (drop base w) ++ r) i ≡ at (drop p (drop base w)) i
             last = ap (λ (x : List ℕ). at x i) (nil-tail (drop p (drop base w)) r empty)
+
+-- the chains stand from `chains` on, and the words below stay
+pub record ChainedAt (c : List ℕ) (p chains : ℕ) (w w′ : List ℕ) : Type 0 where
+  pub chained : Chained c p w′ chains
+  pub under : (j : ℕ) → j < chains → at w′ j ≡ at w j
+
+pub chained-at : (c : List ℕ) (p chains : ℕ) (w v w′ : List ℕ) → chains + p + length c ≤ length w → length v ≡ length (take (length w - chains) (drop chains w)) → Chained c p v 0 → w′ ≡ take chains w ++ (v ++ drop (length w - chains) (drop chains w)) → ChainedAt c p chains w w′
+chained-at c p chains w v w′ room size h e =
+    let r = drop (length w - chains) (drop chains w) in
+    let a = length-take (length w - chains) (drop chains w) in
+    let b = length-drop chains w in
+    record {
+      chained = chained-part c p chains v w′ (λ j l. ap (λ (x : List ℕ). at x (chains + j)) e ∙ part-in chains w v r j (omega arith) (omega arith)) h;
+      under = λ j l. ap (λ (x : List ℕ). at x j) e ∙ part-under chains w v r j (omega arith) l;
+    }

@@ -17,8 +17,8 @@ use Rattle.sides.specs.Order.{among-at}
 use Rattle.sorting.specs.Stable.{part}
 use Rattle.sorting.proofs.Parts.{part-length}
 use Rattle.chains.specs.Chain.{Chained}
-use Rattle.chains.specs.Marks.{Lists, Marking, Cleared, chained-part}
-use Rattle.chains.specs.Clear.{part-under, part-in}
+use Rattle.chains.specs.Marks.{Lists, Marking, Cleared}
+use Rattle.chains.specs.Clear.{ChainedAt}
 use Rattle.chains.specs.AcrossMarks.{AcrossBelow}
 use Rattle.rounds.specs.Choices.{Side, flipStart, flipPass, flipsOf}
 use Rattle.oracle.specs.Scene.{Scene, scene}
@@ -33,19 +33,7 @@ use Rattle.scores.proofs.Rises.{rising-is}
 use Rattle.flips.specs.Quads.{Ready, Standing, Shaped, Passed}
 use Rattle.flips.proofs.Steps.{part-at}
 use Rattle.flips.proofs.Pass.{part-kept}
-use Rattle.flips.specs.Whole.{sidesFrom, chainsFrom, acrossFrom, ChainedAt, Noted, Begun, Flippable, Flipped}
-
--- ---- chain_at
-
-pub chained-at : (c : List ℕ) (p chains : ℕ) (w v w′ : List ℕ) → chains + p + length c ≤ length w → length v ≡ length (take (length w - chains) (drop chains w)) → Chained c p v 0 → w′ ≡ take chains w ++ (v ++ drop (length w - chains) (drop chains w)) → ChainedAt c p chains w w′
-chained-at c p chains w v w′ room size h e =
-    let r = drop (length w - chains) (drop chains w) in
-    let a = length-take (length w - chains) (drop chains w) in
-    let b = length-drop chains w in
-    record {
-      chained = chained-part c p chains v w′ (λ j l. ap (λ (x : List ℕ). at x (chains + j)) e ∙ part-in chains w v r j (omega arith) (omega arith)) h;
-      under = λ j l. ap (λ (x : List ℕ). at x j) e ∙ part-under chains w v r j (omega arith) l;
-    }
+use Rattle.flips.specs.Whole.{sidesFrom, chainsFrom, acrossFrom, Noted, Begun, Flippable, Flipped}
 
 -- ---- mark_list
 

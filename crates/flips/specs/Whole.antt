@@ -10,7 +10,6 @@ use Rattle.places.specs.Place.{nx, pv, at, uses}
 use Rattle.sides.specs.Side.{Twin, sorted}
 use Rattle.sides.specs.Order.{Sorted}
 use Rattle.sorting.specs.Stable.{part}
-use Rattle.chains.specs.Chain.{Chained}
 use Rattle.oracle.specs.Scene.{Scene}
 use Rattle.oracle.specs.Round.{Mesh, Sheet, flipped, flips}
 use Rattle.scores.specs.Words.{Kept}
@@ -30,11 +29,6 @@ acrossFrom c p = p * 3 + length c * 3 + length c / 2 + p + length c + p
 -- how many words the pass needs
 abbrev pub flipWords : List ℕ → List ℕ → ℕ → ℕ
 flipWords c ls p = acrossFrom c p + length c + length c + length ls * 2 + p
-
--- the chains stand from `chains` on, and the words below stay
-pub record ChainedAt (c : List ℕ) (p chains : ℕ) (w w′ : List ℕ) : Type 0 where
-  pub chained : Chained c p w′ chains
-  pub under : (j : ℕ) → j < chains → at w′ j ≡ at w j
 
 -- the marks of a closed list in the words: twins, degrees, the r sides in rising order, and which corners are joined across a side
 pub record Noted (c : List ℕ) (p : ℕ) (w : List ℕ) (r : ℕ) : Type 0 where

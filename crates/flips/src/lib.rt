@@ -1,8 +1,8 @@
 // The flip pass of a round: each side of two triangles with one label, in rising order, is flipped where that helps the worse shape or evens the degrees.
-use closing::clear;
 use float::max;
 use float::min;
-use marks::chain_places;
+use marks::chain_at;
+use marks::clear_from;
 use marks::mark_across;
 use places::after;
 use places::before;
@@ -26,8 +26,8 @@ ghost use Rattle.oracle.specs.Scene.{scene};
 ghost use Rattle.scores.specs.Words.{Held};
 ghost use Rattle.scores.specs.Measures as Scores;
 ghost use Rattle.scores.specs.Measures.{Filled};
-ghost use Rattle.chains.specs.Marks.{Lists, Cleared};
-ghost use Rattle.flips.specs.Whole.{acrossFrom, ChainedAt, Noted, Begun, Flippable, Flipped};
+ghost use Rattle.chains.specs.Marks.{Lists};
+ghost use Rattle.flips.specs.Whole.{acrossFrom, Noted, Begun, Flippable, Flipped};
 ghost use Rattle.flips.specs.Quads.{quadOf, quadAt, begunAt, touches, evensAt, beforeAt, afterOf, improvesAt, putTri, flipCorners, touchFour, Ready, quadIn, decidesAt, Tried, Shaped, Standing, Passed};
 
 // The four corners of a side's two triangles: the earlier runs from u to v, with c opposite, and d is opposite in the later. `across` is the place of c.
@@ -299,23 +299,6 @@ fn flip_each(
     flips
 }
 
-// Chains the places of each corner in the words from `chains` on.
-fn chain_at(corners: &[u32], heads: usize, chains: usize, work: &mut [u32])
-    requires { ⌜ Lists (now corners) heads ⌝ }
-    requires { ⌜ chains + heads + length (now corners) ≤ length (now work) ⌝ }
-    ensures { λ _. ⌜ ChainedAt (now (corners .entry)) heads chains (now (work .entry)) (now (work .exit)) ⌝ }
-{
-    chain_places(corners, heads, &mut work[chains..])
-}
-
-// No corner is touched.
-fn clear_touched(touched: usize, heads: usize, work: &mut [u32])
-    requires { ⌜ touched + heads ≤ length (now work) ⌝ }
-    ensures { λ _. ⌜ Cleared touched heads (now (work .entry)) (now (work .exit)) ⌝ }
-{
-    clear(&mut work[touched..], heads)
-}
-
 // The twins, the degrees, the places of the sides, and which corners are joined across a side. Returns how many sides there are.
 fn mark_list(corners: &[u32], heads: usize, work: &mut [u32]) -> usize
     requires { ⌜ Lists (now corners) heads ⌝ }
@@ -351,7 +334,7 @@ fn begin_pass(
 {
     copy_corners(corners, begun, work);
     keep_scores(points, corners, labels, coefficients, powers, kept, work);
-    clear_touched(touched, points.len() / 3, work);
+    clear_from(touched, points.len() / 3, work);
 }
 
 // The flip pass over a closed list. Returns how many sides are flipped.

@@ -13,12 +13,13 @@ ghost use lib.ListN.{length};
 ghost use Rattle.places.specs.Place.{at, nx, pv};
 ghost use Rattle.chains.specs.Chain.{Chained, walk};
 ghost use Rattle.chains.specs.Marks.{Lists, Marking, Walking, stampAt, Cleared};
+ghost use Rattle.chains.specs.Clear.{ChainedAt};
 ghost use Rattle.chains.specs.SideMarks.{Told, Strange, Stamped, Marked, MarkedOf, SidesMarked};
 ghost use Rattle.chains.specs.AcrossMarks.{AcrossOf, AcrossBelow};
 ghost use Rattle.chains.specs.LabelMarks.{Carried, Labelled};
 
 // Chains the places of each corner in rising order: its head is one more than its first place, and a place's link one more than the next. Heads from 0 on, links behind them.
-pub fn chain_places(corners: &[u32], points: usize, work: &mut [u32])
+fn chain_places(corners: &[u32], points: usize, work: &mut [u32])
     requires { ⌜ Lists (now corners) points ⌝ }
     requires { ⌜ points + length (now corners) ≤ length (now work) ⌝ }
     ensures { λ _. ⌜ Chained (now (corners .entry)) points (now (work .exit)) 0 ⌝ }
@@ -33,6 +34,15 @@ pub fn chain_places(corners: &[u32], points: usize, work: &mut [u32])
         put(work, points + k, next);
         put(work, v, q);
     }
+}
+
+// The chains in the words from `chains` on.
+pub fn chain_at(corners: &[u32], points: usize, chains: usize, work: &mut [u32])
+    requires { ⌜ Lists (now corners) points ⌝ }
+    requires { ⌜ chains + points + length (now corners) ≤ length (now work) ⌝ }
+    ensures { λ _. ⌜ ChainedAt (now (corners .entry)) points chains (now (work .entry)) (now (work .exit)) ⌝ }
+{
+    chain_places(corners, points, &mut work[chains..])
 }
 
 fn small(l: u8) -> usize
@@ -58,12 +68,12 @@ pub fn mark_labels(corners: &[u32], labels: &[u8], points: usize, work: &mut [u3
     }
 }
 
-// Words from `stamps` on become 0, one for each point.
-fn clear_stamps(points: usize, stamps: usize, work: &mut [u32])
-    requires { ⌜ stamps + points ≤ length (now work) ⌝ }
-    ensures { λ _. ⌜ Cleared stamps points (now (work .entry)) (now (work .exit)) ⌝ }
+// The `count` words from `from` on become 0.
+pub fn clear_from(from: usize, count: usize, work: &mut [u32])
+    requires { ⌜ from + count ≤ length (now work) ⌝ }
+    ensures { λ _. ⌜ Cleared from count (now (work .entry)) (now (work .exit)) ⌝ }
 {
-    clear(&mut work[stamps..], points)
+    clear(&mut work[from..], count)
 }
 
 // Stamps each corner that follows v in a triangle with v + 1.
@@ -201,7 +211,7 @@ pub fn mark_sides(
     requires { ⌜ Marking (now corners) points (now work) chains stamps marks ⌝ }
     ensures { λ _. ⌜ SidesMarked (now (corners .entry)) stamps marks (now (work .entry)) (now (work .exit)) ⌝ }
 {
-    clear_stamps(points, stamps, work);
+    clear_from(stamps, points, work);
     let mut v: usize = 0;
     while v < points {
         stamp_around(corners, points, chains, stamps, v, work);
@@ -248,7 +258,7 @@ pub fn mark_across(
     requires { ⌜ Marking (now corners) points (now work) chains stamps marks ⌝ }
     ensures { λ _. ⌜ AcrossBelow (now (corners .entry)) points stamps marks points (now (work .entry)) (now (work .exit)) ⌝ }
 {
-    clear_stamps(points, stamps, work);
+    clear_from(stamps, points, work);
     let mut v: usize = 0;
     while v < points {
         stamp_around(corners, points, chains, stamps, v, work);

@@ -25,19 +25,19 @@ abbrev Cs : tie.At-loop Inv-loop μ-loop → List ℕ
 Cs l = now (start l .args .corners)
 
 abbrev W₀ : tie.At-loop Inv-loop μ-loop → List ℕ
-W₀ l = l .before .before .before .clear-stamps .last .1 .1 .0
+W₀ l = l .before .before .before .clear-from .last .1 .1 .0
 
 cleared : (l : tie.At-loop Inv-loop μ-loop) → Cleared (start l .args .stamps) (start l .args .points) (now (start l .args .work)) (W₀ l)
-cleared l = l .before .before .before .clear-stamps .ensures
+cleared l = l .before .before .before .clear-from .ensures
 
 handed : (l : tie.At-loop Inv-loop μ-loop) → Marking (Cs l) (start l .args .points) (W₀ l) (start l .args .chains) (start l .args .stamps) (start l .args .marks)
 handed l = marking-kept (W₀ l) (cleared l .len) (cleared l .under) (start l .pre)
 
-clear-stamps-requires : tie.Need-clear-stamps-requires Inv-loop μ-loop
-clear-stamps-requires c κs = let s = c .before .before .before in omega (arith, s .pre .third, s .pre .room)
+clear-from-requires : tie.Need-clear-from-requires Inv-loop μ-loop
+clear-from-requires c κs = let s = c .before .before .before in omega (arith, s .pre .third, s .pre .room)
 
 loop-holds : tie.Need-loop-holds Inv-loop μ-loop
-loop-holds c = let d = c .before .before in let s = d .before .before .before .before in (omega arith, across-none (now (s .args .corners)) (s .args .points) (s .args .stamps) (s .args .marks) (d .clear-stamps .last .1 .1 .0) (d .clear-stamps .last .1 .1 .0) refl (λ j l. refl) (d .clear-stamps .ensures .zeros))
+loop-holds c = let d = c .before .before in let s = d .before .before .before .before in (omega arith, across-none (now (s .args .corners)) (s .args .points) (s .args .stamps) (s .args .marks) (d .clear-from .last .1 .1 .0) (d .clear-from .last .1 .1 .0) refl (λ j l. refl) (d .clear-from .ensures .zeros))
 
 stamp-around-requires : tie.Need-stamp-around-requires Inv-loop μ-loop
 stamp-around-requires c κs = let i = c .before in let l = i .before in (walking-of (turn-kept (Cs l) (start l .args .points) (W₀ l) (start l .args .chains) (start l .args .stamps) (start l .args .marks) (l .loop .v) (handed l) (l .loop .work) (l .loop .inv .1 .len) (l .loop .inv .1 .under)), i .loop-test .taken)
@@ -66,7 +66,7 @@ mark-across-spec =
     (tie.spec
     Inv-loop
     μ-loop
-    clear-stamps-requires
+    clear-from-requires
     loop-holds
     stamp-around-requires
     mark-across-of-requires

@@ -1,9 +1,9 @@
--- `flips::chain_at` meets its contract: the words from `chains` on are lent to `chain_places`, and come back. Assumes nothing.
+-- `marks::chain_at` meets its contract: the words from `chains` on are lent to `chain_places`, and come back.
 use mathlib.Core.Path.{refl}
-use Rattle.flips.proofs.Stages.{chained-at}
+use Rattle.chains.specs.Clear.{chained-at}
 use borrow.Author.Needs.{needs}
-use Rattle.flips.proofs.chain_at.Statement.{statement}
-use Rattle.flips.proofs.chain_at.Tie as tie
+use Rattle.marks.proofs.chain_at.Statement.{statement}
+use Rattle.marks.proofs.chain_at.Tie as tie
 
 mul-chain-places : tie.Need-mul-chain-places
 mul-chain-places c = search needs
@@ -26,7 +26,7 @@ same-length c = search needs
 returns : tie.Need-returns
 returns c =
     let a = (c .before .before .before .before .before .before) in
-    chained-at (a .args .corners .now) (a .args .heads) (a .args .chains) (a .args .work .now) _ _ (a .pre .1) ((c .before .before) .chain-places .kept .1 .1 .0) ((c .before .before) .chain-places .ensures) refl
+    chained-at (a .args .corners .now) (a .args .points) (a .args .chains) (a .args .work .now) _ _ (a .pre .1) ((c .before .before) .chain-places .kept .1 .1 .0) ((c .before .before) .chain-places .ensures) refl
 
 pub chain-at-spec : {M : Type 1} → statement M
 chain-at-spec =

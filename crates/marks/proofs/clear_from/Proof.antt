@@ -1,9 +1,10 @@
--- `flips::clear_touched` meets its contract: the words from `touched` on are lent to `clear`, and come back. Assumes nothing.
+-- `marks::clear_from` meets its contract: the words from `from` on are lent to `clear`, and come back.
 use mathlib.Core.Path.{refl}
+use denote.Ref.{now}
 use Rattle.chains.specs.Clear.{clear-part}
 use borrow.Author.Needs.{needs}
-use Rattle.flips.proofs.clear_touched.Statement.{statement}
-use Rattle.flips.proofs.clear_touched.Tie as tie
+use Rattle.marks.proofs.clear_from.Statement.{statement}
+use Rattle.marks.proofs.clear_from.Tie as tie
 
 mul-clear : tie.Need-mul-clear
 mul-clear c = search needs
@@ -24,12 +25,10 @@ same-length : tie.Need-same-length
 same-length c = search needs
 
 returns : tie.Need-returns
-returns c =
-    let a = (c .before .before .before .before .before) in
-    clear-part (a .args .touched) (a .args .heads) (a .args .work .now) _ _ (a .pre) ((c .before .before) .clear .ensures) refl
+returns c = let d = c .before .before in let s = d .before .before .before in clear-part (s .args .from) (s .args .count) (now (s .args .work)) (d .clear .last .0) _ (s .pre) (d .clear .ensures) refl
 
-pub clear-touched-spec : {M : Type 1} → statement M
-clear-touched-spec =
+pub clear-from-spec : {M : Type 1} → statement M
+clear-from-spec =
     tie.close
     (tie.spec
     mul-clear
