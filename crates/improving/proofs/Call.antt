@@ -1,0 +1,128 @@
+-- A whole call: what each end leaves is what `Improving` says.
+use Prim.Native.Nat.{ℕ, _+_, _*_, _/_, _≤_, _<_}
+use native.Mathlib.Omega.{arith}
+use mathlib.Core.Path.{_≡_, refl, sym, ap, ap₂, _∙_}
+use mathlib.Core.Bool.{Bool, true, false, cond}
+use mathlib.Core.List.{List, _++_}
+use lib.Dec.{eqb, leb}
+use lib.Ieee.{Float}
+use lib.ListN.{length, take, drop, replicate, length-replicate}
+use lib.Seq.{drop-at, length-front, length-take-le}
+use borrow.Author.Tests.{ne-eqb, le-leb, lt-leb}
+use Rattle.field.specs.Valid.{sheetOk}
+use Rattle.questions.specs.Questions.{needed, ask, surfaceNumber, cleared, workAfter, Admits}
+use Rattle.questions.specs.Admitted.{Admitted}
+use Rattle.questions.proofs.Laws.{number-admitted}
+use Rattle.oracle.specs.Round.{Result, count}
+use Rattle.oracle.proofs.Safe.{safe-after}
+use Rattle.flips.specs.Whole.{meshOf, sheetOf}
+use Rattle.improving.specs.Rounded.{Improvable, Rounded}
+use Rattle.improving.specs.Improve.{improveNumber, improved, answerOf, unlessRefused, Improving}
+use Rattle.improving.specs.declared.Outcome.{Outcome}
+use Rattle.improving.specs.declared.Outcome.the-variants.{Improved, Refused}
+use Rattle.improving.proofs.Running.{fine-first}
+
+-- a surface that passes the questions, with the needed words of those lent
+module _ {ps : List Float} {c ls w w′ : List ℕ} {number : ℕ} (q : Admits ps c ls w w′ number) (z : number ≡ 0) (same : length w′ ≡ length w) where
+  admits : Admitted ps c ls w
+  admits = number-admitted ps c ls w (sym (q .answer) ∙ z)
+
+  pub room : length c / 3 * 32 + length ps / 3 * 16 ≤ length w′
+  room = let x = admits .enough-words in omega arith
+
+  pub handed : Improvable ps c ls (take (length c / 3 * 32 + length ps / 3 * 16) w′)
+  handed =
+      let t = admits .corners-in-threes in
+      let e = admits .a-label-each in
+      let n = admits .few-triangles in
+      record {
+        lists = record { thirds = t; few = omega arith; points = admits .few-points; below = admits .listed };
+        coords = admits .points-in-threes;
+        labelled = record { size = omega arith; small = λ i l. let k = admits .known i l in omega arith };
+        closed = admits .closed;
+        room = let x = length-take-le (length c / 3 * 32 + length ps / 3 * 16) w′ room in omega arith;
+      }
+
+  -- the rounds leave as many words as they are lent
+  pub words-stay : (v : List ℕ) → length v ≡ length (take (length c / 3 * 32 + length ps / 3 * 16) w′) → length c / 3 * 32 + length ps / 3 * 16 ≤ length (v ++ drop (length c / 3 * 32 + length ps / 3 * 16) w′)
+  words-stay v e = let x = length-front w′ v (length c / 3 * 32 + length ps / 3 * 16) e in let y = room in omega arith
+
+as-lent : {A : Type 0} (number : ℕ) → (number ≡ 0 → ⊥) → (lent made : List A) → lent ≡ unlessRefused number lent made
+as-lent number n lent made = rw (ne-eqb number 0 n)
+
+module _ (ps : List Float) (c ls w : List ℕ) (qs : List Float) (ns : List ℕ) (levels bounds : List Float) (n : ℕ) where
+  abbrev r : Result
+  r = improved ps c ls qs ns n
+
+  abbrev last-two : Bool → Bool → ℕ
+  last-two s t = ask s 13 (ask t 14 0)
+
+  -- a call is refused
+  refused : (number : ℕ) → (number ≡ 0 → ⊥) → improveNumber ps c ls w qs ns levels bounds n ≡ number → {w′ : List ℕ} → w′ ≡ workAfter number ps c w
+      → Improving ps c ls w qs ns levels bounds n ps c ls w′ (Refused number)
+  refused number z e f = record {
+    answer = sym (ap (λ (q : ℕ). answerOf q r) e ∙ ap (λ (t : Bool). cond t (Improved (count (r .mesh)) (length (r .mesh .pair .tris)) (r .flips)) (Refused number)) (ne-eqb number 0 z));
+    points = as-lent number z ps _;
+    corners = as-lent number z c _;
+    labels = as-lent number z ls _;
+    work = f;
+  }
+
+  number-from : {number : ℕ} → number ≡ surfaceNumber ps c ls w → improveNumber ps c ls w qs ns levels bounds n ≡ ask (eqb number 0) number (last-two (sheetOk qs ns levels bounds) (leb n 1000))
+  unfolding improveNumber
+  number-from e = ap (λ (q : ℕ). ask (eqb q 0) q (last-two (sheetOk qs ns levels bounds) (leb n 1000))) (sym e)
+
+  -- by a question about the surface
+  pub refused-surface : {number : ℕ} {w′ : List ℕ} → Admits ps c ls w w′ number → (number ≡ 0 → ⊥) → Improving ps c ls w qs ns levels bounds n ps c ls w′ (Refused number)
+  refused-surface {number} a z = refused number z (number-from (a .answer) ∙ ap (λ (t : Bool). ask t number (last-two (sheetOk qs ns levels bounds) (leb n 1000))) (ne-eqb number 0 z)) (a .words)
+
+  module _ {number : ℕ} {w′ : List ℕ} (a : Admits ps c ls w w′ number) (z : number ≡ 0) where
+    number-is : improveNumber ps c ls w qs ns levels bounds n ≡ last-two (sheetOk qs ns levels bounds) (leb n 1000)
+    number-is = number-from (a .answer) ∙ ap (λ (q : ℕ). ask (eqb q 0) q (last-two (sheetOk qs ns levels bounds) (leb n 1000))) z
+
+    cleared-words : w′ ≡ cleared (needed ps c) w
+    cleared-words = a .words ∙ ap (λ (q : ℕ). workAfter q ps c w) z
+
+    -- by question 13
+    pub no-sheet : sheetOk qs ns levels bounds ≡ false → Improving ps c ls w qs ns levels bounds n ps c ls w′ (Refused 13)
+    no-sheet s = refused 13 (λ q. omega arith) (number-is ∙ ap (λ (t : Bool). last-two t (leb n 1000)) s) cleared-words
+
+    module _ (s : sheetOk qs ns levels bounds ≡ true) where
+      -- by question 14
+      pub too-many : 1000 < n → Improving ps c ls w qs ns levels bounds n ps c ls w′ (Refused 14)
+      too-many l = refused 14 (λ q. omega arith) (number-is ∙ ap₂ last-two s (lt-leb n 1000 l)) cleared-words
+
+      -- or the rounds have come to their end, and the needed words are cleared
+      module _ (l : n ≤ 1000) (same : length w′ ≡ length w) where
+        abbrev need : ℕ
+        need = length c / 3 * 32 + length ps / 3 * 16
+
+        need-is : length c / 3 * 32 + length ps / 3 * 16 ≡ needed ps c
+        need-is = omega arith
+
+        number-0 : improveNumber ps c ls w qs ns levels bounds n ≡ 0
+        number-0 = number-is ∙ ap₂ last-two s (le-leb n 1000 l)
+
+        further : (v : List ℕ) → length v ≡ length (take need w′) → drop need (v ++ drop need w′) ≡ drop need w
+        further v e =
+            drop-at v (drop need w′) need (e ∙ length-take-le need w′ (room a z same))
+            ∙ ap (drop need) cleared-words
+            ∙ drop-at (replicate (needed ps c) 0) (drop (needed ps c) w) need (length-replicate (needed ps c) 0 ∙ sym need-is)
+            ∙ ap (λ (k : ℕ). drop k w) (sym need-is)
+
+        pub improves : {ps′ : List Float} {c′ ls′ w₃ : List ℕ} {p t k : ℕ} → Rounded (improved ps c ls qs ns n) (49152 * n) ps c ls ps′ c′ ls′ p t k
+            → (v : List ℕ) → length v ≡ length (take (length c / 3 * 32 + length ps / 3 * 16) w′)
+            → w₃ ≡ replicate (length c / 3 * 32 + length ps / 3 * 16) 0 ++ drop (length c / 3 * 32 + length ps / 3 * 16) (v ++ drop (length c / 3 * 32 + length ps / 3 * 16) w′)
+            → Improving ps c ls w qs ns levels bounds n ps′ c′ ls′ w₃ (Improved p t k)
+        improves {p = p} {t} {k} x v e g =
+            let h = handed a z same in
+            let y = safe-after (sheetOf qs ns) n (meshOf ps c ls) (h .closed) (fine-first h .labelled) in
+            let ep : p ≡ count (r .mesh) = let q = x .points in omega arith in
+            let et : t ≡ length (r .mesh .pair .tris) = sym (x .triangles) ∙ y .labelled in
+            record {
+              answer = (λ i. Improved (ep i) (et i) (x .flips i)) ∙ sym (ap (λ (q : ℕ). answerOf q r) number-0);
+              points = x .holds .points;
+              corners = x .holds .corners;
+              labels = x .holds .labels;
+              work = g ∙ ap (λ (y : List ℕ). replicate need 0 ++ y) (further v e) ∙ ap (λ (q : ℕ). cleared q w) need-is;
+            }

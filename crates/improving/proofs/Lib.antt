@@ -1,0 +1,6 @@
+-- What the needs ask, over plain lists: `Dropping` for the collapses, `Numbering` for the renumbering, `Parts` puts the parts of a round together; `Running` for the rounds one after another, `Call` for the whole call.
+pub mod Dropping
+pub mod Numbering
+pub mod Parts
+pub mod Running
+pub mod Call
