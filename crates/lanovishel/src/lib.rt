@@ -8,6 +8,7 @@ ghost use lib.Ieee.{binary64};
 ghost use Rattle.float.specs.Root.{root};
 ghost use Rattle.lanovishel.specs.Check.{Checked};
 ghost use Rattle.lanovishel.specs.Edit.{EditCall};
+ghost use Rattle.lanovishel.specs.Improve.{ImproveCall};
 
 // The square root of IEEE 754.
 #[no_mangle]
@@ -63,6 +64,45 @@ pub extern "C" fn lanovishel_edit(
         }
         Outcome::Refused(number) => {
             *answer = [0, 0];
+            number
+        }
+    }
+}
+
+// Improving by rounds: 0 with points left, triangles left and flips, or the number of the question that
+// the call fails. `bounds` is the lower corner of the box, then the upper.
+#[no_mangle]
+pub extern "C" fn lanovishel_improve(
+    points: &mut [f64],
+    corners: &mut [u32],
+    labels: &mut [u8],
+    work: &mut [u32],
+    coefficients: &[f64],
+    powers: &[u32],
+    levels: &[f64; 2],
+    bounds: &[f64; 6],
+    rounds: u32,
+    answer: &mut [u32; 3],
+) -> u32
+    ensures { λ r. ⌜ ImproveCall (now (points .entry)) (now (corners .entry)) (now (labels .entry)) (now (work .entry)) (now (coefficients .entry)) (now (powers .entry)) (now (levels .entry)) (now (bounds .entry)) rounds (now (points .exit)) (now (corners .exit)) (now (labels .exit)) (now (work .exit)) (now (answer .exit)) r ⌝ }
+{
+    match improving::improve(
+        points,
+        corners,
+        labels,
+        work,
+        coefficients,
+        powers,
+        levels,
+        bounds,
+        rounds,
+    ) {
+        improving::Outcome::Improved(left, triangles, flips) => {
+            *answer = [low_word(left), low_word(triangles), flips];
+            0
+        }
+        improving::Outcome::Refused(number) => {
+            *answer = [0, 0, 0];
             number
         }
     }
