@@ -9,6 +9,7 @@ pub mod closed;
 pub mod damage;
 pub mod editing;
 pub mod history;
+pub mod improving;
 pub mod questions;
 pub mod random;
 pub mod roots;

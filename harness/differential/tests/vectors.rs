@@ -1,7 +1,7 @@
 //! The vectors of the folder `vectors`, replayed: they stand in where the original is not there.
 use differential::{
     call::Call,
-    checking, editing,
+    checking, editing, improving,
     vectors::{self, Format},
 };
 use std::{fs, path::Path};
@@ -24,4 +24,9 @@ fn of_checking() {
 #[test]
 fn of_editing() {
     replay("edit.words", vectors::EDIT, editing::ours);
+}
+
+#[test]
+fn of_improving() {
+    replay("improve.words", vectors::IMPROVE, improving::ours);
 }

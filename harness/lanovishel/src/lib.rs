@@ -4,6 +4,7 @@
 //! outside the slices that it is lent.
 mod check;
 mod edit;
+mod improve;
 mod refused;
 mod root;
 
@@ -11,5 +12,6 @@ pub mod raw;
 
 pub use check::{Measured, check, work_words};
 pub use edit::{Edited, edit};
+pub use improve::{Field, Improved, improve};
 pub use refused::Refused;
 pub use root::sqrt;

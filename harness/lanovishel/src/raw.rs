@@ -38,4 +38,24 @@ unsafe extern "C" {
         journal_words: usize,
         answer: *mut [u32; 2],
     ) -> u32;
+
+    /// Rounds of improving; see [`crate::improve`].
+    pub fn lanovishel_improve(
+        points: *mut f64,
+        point_values: usize,
+        corners: *mut u32,
+        corner_numbers: usize,
+        labels: *mut u8,
+        label_count: usize,
+        work: *mut u32,
+        work_words: usize,
+        coefficients: *const f64,
+        coefficient_count: usize,
+        powers: *const u32,
+        power_count: usize,
+        levels: *const [f64; 2],
+        bounds: *const [f64; 6],
+        rounds: u32,
+        answer: *mut [u32; 3],
+    ) -> u32;
 }

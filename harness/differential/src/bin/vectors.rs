@@ -2,7 +2,7 @@
 //! vectors: `cargo run -p differential --bin vectors -- FOLDER`.
 use differential::{
     call::Call,
-    checking, editing,
+    checking, editing, improving,
     random::Random,
     vectors::{self, Format},
 };
@@ -27,7 +27,7 @@ fn sample(
     for seed in 1..=3_000 {
         let before = call(&mut Random::new(seed));
         let small = before.surface.point_count() <= MOST && before.surface.triangle_count() <= MOST;
-        if !small {
+        if !small || before.rounds > 6 {
             continue;
         }
         let after = model(&before).expect("vectors are made where the original is there");
@@ -63,5 +63,10 @@ fn main() {
     write(
         "edit.words",
         sample(vectors::EDIT, 40, editing::random_call, edit),
+    );
+    let improve = |before: &Call| Some(improving::model(before)?.0);
+    write(
+        "improve.words",
+        sample(vectors::IMPROVE, 40, improving::random_call, improve),
     );
 }

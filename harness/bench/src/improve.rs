@@ -1,0 +1,62 @@
+//! Improving, beside the original without its closing smoothing.
+use crate::table::{head, means, once, row};
+use differential::{
+    call::Call,
+    checking::mesh,
+    improving::{pinch, told},
+    random::Random,
+    surfaces::{Surface, sphere},
+};
+use lanovishel::{Field, Improved};
+
+/// Spheres with uneven triangles and short sides.
+pub fn table() {
+    head("improving", "ours, µs", "`improve`, µs");
+    for times in 4..=6 {
+        let mut surface = sphere(times);
+        let mut random = Random::new(1);
+        surface.jitter(&mut random, 0.3 / f64::powi(2.0, times as i32));
+        (0..surface.triangle_count() / 16).for_each(|_| pinch(&mut surface, &mut random));
+        for rounds in [1, 5] {
+            measure(&surface, rounds);
+        }
+    }
+}
+
+fn measure(surface: &Surface, rounds: u32) {
+    let calls = if surface.triangle_count() > 10_000 {
+        5
+    } else {
+        20
+    };
+    let mut call = Call::new(surface.clone(), surface.work_words());
+    call.coefficients = vec![1.0; 3];
+    call.powers = vec![2, 0, 0, 0, 2, 0, 0, 0, 2];
+    call.levels = [0.0, 1.0];
+    call.bounds = [-2.0, -2.0, -2.0, 2.0, 2.0, 2.0];
+    call.rounds = rounds;
+    let left = improve(&mut call.clone());
+    let ours = once(|| call.clone(), improve);
+    let how = told(&call);
+    let theirs = once(|| mesh(surface), |mesh| original::improve(mesh, &how));
+    let triangles = surface.triangle_count();
+    let collapses = (triangles - left.triangles as usize) / 2;
+    let done = format!("{collapses} collapses, {} flips", left.flips);
+    let what = format!("{triangles} triangles, rounds: {rounds} ({done})");
+    row(&what, means(calls, ours, theirs));
+}
+
+fn improve(call: &mut Call) -> Improved {
+    let field = Field {
+        coefficients: &call.coefficients,
+        powers: &call.powers,
+        levels: call.levels,
+        bounds: call.bounds,
+    };
+    let Surface {
+        points,
+        corners,
+        labels,
+    } = &mut call.surface;
+    lanovishel::improve(points, corners, labels, &mut call.work, &field, call.rounds).unwrap()
+}

@@ -1,0 +1,93 @@
+//! Improving the triangles of a surface.
+use crate::{Refused, raw};
+
+/// What a surface is a part of: the levels of a field, within a box.
+///
+/// The triangles of label 0 lie on the upper level and those of 1 on the lower one; labels 2 to 7
+/// are the walls of the box.
+#[derive(Clone, Copy, Debug)]
+pub struct Field<'a> {
+    /// The coefficient q of each term q·x^i·y^j·z^k, up to 64.
+    pub coefficients: &'a [f64],
+    /// The powers i, j, k of each term, 0 to 3.
+    pub powers: &'a [u32],
+    /// The lower level, which may be -infinity, and the upper.
+    pub levels: [f64; 2],
+    /// The lower corner of the box, then the upper, within ±2^20.
+    pub bounds: [f64; 6],
+}
+
+/// What improving leaves.
+#[derive(Clone, Copy, Debug, PartialEq, Eq)]
+pub struct Improved {
+    /// How many points are left; the list is 0 behind them.
+    pub points: u32,
+    /// How many triangles are left; the lists are 0 behind them.
+    pub triangles: u32,
+    /// How many sides were flipped.
+    pub flips: u32,
+}
+
+/// Runs rounds of improving: short sides of bad triangles are collapsed, the points are numbered
+/// anew, and sides are flipped where that makes the triangles better. The surface stays closed.
+///
+/// ```
+/// // A sphere's octahedron has nothing to improve.
+/// let mut points = [
+///     1., 0., 0., -1., 0., 0., 0., 1., 0., 0., -1., 0., 0., 0., 1., 0., 0., -1.,
+/// ];
+/// let mut corners = [
+///     0, 2, 4, 2, 1, 4, 1, 3, 4, 3, 0, 4, 2, 0, 5, 1, 2, 5, 3, 1, 5, 0, 3, 5,
+/// ];
+/// let mut work = vec![0; lanovishel::work_words(6, 8)];
+/// let field = lanovishel::Field {
+///     coefficients: &[1., 1., 1.],
+///     powers: &[2, 0, 0, 0, 2, 0, 0, 0, 2],
+///     levels: [f64::NEG_INFINITY, 1.],
+///     bounds: [-2., -2., -2., 2., 2., 2.],
+/// };
+/// let left = lanovishel::improve(&mut points, &mut corners, &mut [0; 8], &mut work, &field, 5);
+/// assert_eq!(left, Ok(lanovishel::Improved { points: 6, triangles: 8, flips: 0 }));
+/// ```
+///
+/// # Errors
+/// [`Refused`] with a number from 1 to 5, 7, or 9 to 14.
+pub fn improve(
+    points: &mut [f64],
+    corners: &mut [u32],
+    labels: &mut [u8],
+    work: &mut [u32],
+    field: &Field,
+    rounds: u32,
+) -> Result<Improved, Refused> {
+    let mut answer = [0; 3];
+    // SAFETY: each pointer comes with its own slice's length, and what is written is borrowed
+    // alone.
+    let number = unsafe {
+        raw::lanovishel_improve(
+            points.as_mut_ptr(),
+            points.len(),
+            corners.as_mut_ptr(),
+            corners.len(),
+            labels.as_mut_ptr(),
+            labels.len(),
+            work.as_mut_ptr(),
+            work.len(),
+            field.coefficients.as_ptr(),
+            field.coefficients.len(),
+            field.powers.as_ptr(),
+            field.powers.len(),
+            &field.levels,
+            &field.bounds,
+            rounds,
+            &mut answer,
+        )
+    };
+    Refused::unless_0(number)?;
+    let [points, triangles, flips] = answer;
+    Ok(Improved {
+        points,
+        triangles,
+        flips,
+    })
+}
