@@ -7,11 +7,11 @@ use native.Mathlib.Omega.{arith}
 use lib.Dec.{eqb}
 use lib.ListN.{length}
 use lib.Ieee.{Float}
-use borrow.Author.Tests.{eqb-true, eqb-false}
+use borrow.Author.Tests.{eqb-true}
 use Rattle.surface.proofs.Flat.{length-triangles}
-use Rattle.questions.specs.Questions.{ask, surfaceNumber}
+use Rattle.questions.specs.Questions.{surfaceNumber}
 use Rattle.questions.specs.Admitted.{Admitted}
-use Rattle.questions.proofs.Laws.{number-admitted}
+use Rattle.questions.proofs.Laws.{number-admitted, first-zero}
 use Rattle.history.specs.History.{History, last, inForce}
 use Rattle.history.specs.Lists.{lentPair, entries, capacity, historyOf}
 use Rattle.history.specs.Safe.{Sound}
@@ -30,20 +30,13 @@ let-in q n k h e = go (eqb q 0) refl e
     go true f g = (eqb-true q 0 f, (cc), (cc))
     go false f g = let z : _≡_ {A = ℕ} 0 1 = cc in absurd (omega arith)
 
-first-0 : (q r : ℕ) → ask (eqb q 0) q r ≡ 0 → q ≡ 0
-first-0 q r e = go (eqb q 0) refl e
-  where
-    go : (t : Bool) → eqb q 0 ≡ t → ask t q r ≡ 0 → q ≡ 0
-    go true f g = eqb-true q 0 f
-    go false f g = g
-
 module _ {points : List Float} {corners₀ labels₀ work₀ es verdicts₀ journal₀ corners₁ labels₁ work₁ verdicts₁ journal₁ : List ℕ} {triangles edits : ℕ} where
   pub demand3 : EditRun points corners₀ labels₀ work₀ es verdicts₀ journal₀ corners₁ labels₁ work₁ verdicts₁ journal₁ (Edited triangles edits)
       → Demand3 points corners₀ labels₀ es journal₀ corners₁ labels₁ verdicts₁ triangles edits
   unfolding editNumber
   demand3 r =
       let t = let-in (editNumber points corners₀ labels₀ work₀ es verdicts₀) triangles edits (historyOf corners₀ labels₀ es journal₀) (r .answer) in
-      let a : Admitted points corners₀ labels₀ work₀ = number-admitted points corners₀ labels₀ work₀ (first-0 (surfaceNumber points corners₀ labels₀ work₀) _ (t .0)) in
+      let a : Admitted points corners₀ labels₀ work₀ = number-admitted points corners₀ labels₀ work₀ (first-zero (surfaceNumber points corners₀ labels₀ work₀) _ (t .0)) in
       record {
         safe = safe (capacity journal₀) (lentPair corners₀ labels₀) (record { closed = a .closed; labelled = sym (length-triangles (length labels₀) corners₀ (thirds a)) }) (entries es);
         below = used-below (length points / 3) corners₀ (a .listed);

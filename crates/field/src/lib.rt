@@ -157,12 +157,11 @@ fn middle(a: Point, b: Point, c: Point) -> Point
     }
 }
 
-// The shape of a triangle by its sides and the normal of its surface.
+// The shape of a triangle by its sides and the normal of its surface. The number is 2·√3.
 fn formed(e: Point, d: Point, o: Point, n: Point) -> f64
     ensures { λ r. ⌜ r ≡ Shape.formed e d o n ⌝ }
 {
-    ((2.0 * float::sqrt(3.0)) * e.cross(d).dot(n))
-        / float::max((e.dot(e) + d.dot(d)) + o.dot(o), 1e-300)
+    (3.4641016151377544 * e.cross(d).dot(n)) / float::max((e.dot(e) + d.dot(d)) + o.dot(o), 1e-300)
 }
 
 // The shape of the triangle a, b, c on the surface with a label.

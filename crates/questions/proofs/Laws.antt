@@ -16,7 +16,7 @@ use Rattle.surface.specs.Check.{differ?}
 use Rattle.places.specs.Place.{at}
 use Rattle.surface.specs.Check.{every}
 use Rattle.questions.specs.Rules.{pairedRinged?, distinct?}
-use Rattle.questions.specs.Questions.{lentNumber, known?, listed?, unopposed?, furtherNumber, surfaceNumber}
+use Rattle.questions.specs.Questions.{ask, lentNumber, known?, listed?, unopposed?, furtherNumber, surfaceNumber}
 use Rattle.questions.specs.Labels.{opposed}
 use Rattle.questions.specs.Admitted.{Admitted}
 use Rattle.questions.proofs.All.{all-at, at-all}
@@ -24,6 +24,14 @@ use Rattle.questions.proofs.Counted.{Counted, asked-zero, asked-finite}
 use Rattle.questions.proofs.Rules.{differ?-iff, pairedRinged?-iff, distinct?-iff}
 use Rattle.questions.proofs.Labels.{unopposed-every, every-unopposed}
 use Rattle.questions.proofs.Chain.{by-further, by-first, Passed, closed-zero}
+
+-- a chain of questions that comes to 0 begins with one that does
+pub first-zero : (q r : ℕ) → ask (eqb q 0) q r ≡ 0 → q ≡ 0
+first-zero q r e = go (eqb q 0) refl e
+  where
+    go : (t : Bool) → eqb q 0 ≡ t → ask t q r ≡ 0 → q ≡ 0
+    go true f g = eqb-true q 0 f
+    go false f g = g
 
 -- all the further questions are answered by "yes"
 record Yes (p : ℕ) (cs ls : List ℕ) : Type 0 where

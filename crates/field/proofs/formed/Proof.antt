@@ -5,12 +5,10 @@ use borrow.Author.Needs.{needs}
 use Rattle.float.specs.declared.Point.{Point}
 use Rattle.float.specs.Point.{plus, times, dotted}
 use Rattle.float.specs.Order.{greater}
-use Rattle.field.specs.Number.{two, tiny}
+use Rattle.field.specs.Number.{tiny}
+use Rattle.field.proofs.Factor.{factor-is}
 use Rattle.field.proofs.formed.Statement.{statement}
 use Rattle.field.proofs.formed.Tie as tie
-
-sqrt-requires : tie.Need-sqrt-requires
-sqrt-requires c κs = search needs
 
 cross-requires : tie.Need-cross-requires
 cross-requires c κs = search needs
@@ -32,16 +30,15 @@ max-requires c κs = search needs
 
 returns : tie.Need-returns
 returns c =
-    let n = c .before .before .before .before .before .before .before .args .n in
+    let n = c .before .before .before .before .before .before .args .n in
     ap₂ (div binary64)
-    (ap₂ times (ap (times two) (c .before .before .before .before .before .before .sqrt .ensures)) (c .before .before .before .before .dot .ensures ∙ ap (λ (v : Point). dotted v n) (c .before .before .before .before .before .cross .ensures)))
+    (ap₂ times factor-is (c .before .before .before .before .dot .ensures ∙ ap (λ (v : Point). dotted v n) (c .before .before .before .before .before .cross .ensures)))
     (c .max .ensures ∙ ap (λ (v : Float). greater v tiny) (ap₂ plus (ap₂ plus (c .before .before .before .dot2 .ensures) (c .before .before .dot3 .ensures)) (c .before .dot4 .ensures)))
 
 pub formed-spec : {M : Type 1} → statement M
 formed-spec =
     tie.close
     (tie.spec
-    sqrt-requires
     cross-requires
     dot-requires
     dot-requires-2

@@ -1,0 +1,50 @@
+-- Demand 3 of the rounds: it holds of every call of `improve` that is let in, by what `improve` promises of every call and by the theorems on rounds.
+use Prim.Native.Nat.{ℕ, _*_, _/_}
+use mathlib.Core.Path.{_≡_, refl, sym, _∙_, ap}
+use mathlib.Core.Bool.{Bool, true, false, cond}
+use mathlib.Core.List.{List}
+use native.Mathlib.Omega.{arith}
+use lib.Dec.{eqb}
+use lib.ListN.{length}
+use lib.Ieee.{Float}
+use borrow.Author.Tests.{eqb-true}
+use Rattle.surface.specs.Triangle.{triangles}
+use Rattle.surface.proofs.Flat.{length-triangles}
+use Rattle.questions.specs.Questions.{surfaceNumber}
+use Rattle.questions.specs.Admitted.{Admitted}
+use Rattle.questions.proofs.Laws.{number-admitted, first-zero}
+use Rattle.oracle.specs.Round.{Result, count}
+use Rattle.oracle.proofs.Safe.{safe-after}
+use Rattle.oracle.proofs.Domain.{same-rounds}
+use Rattle.flips.specs.Whole.{meshOf, sheetOf}
+use Rattle.improving.specs.Improve.{improveNumber, improved, answerOf, Improving}
+use Rattle.improving.specs.Demand3.{Demand3}
+use Rattle.improving.specs.declared.Outcome.{Outcome}
+use Rattle.improving.specs.declared.Outcome.the-variants.{Improved, Refused}
+
+-- an answer of three numbers is that of the rounds, and no question was answered by "no"
+let-in : (q p t k : ℕ) (r : Result) → Improved p t k ≡ answerOf q r → (q ≡ 0) × (p ≡ count (r .mesh)) × (t ≡ length (r .mesh .pair .tris)) × (k ≡ r .flips)
+let-in q p t k r e = go (eqb q 0) refl e
+  where
+    go : (b : Bool) → eqb q 0 ≡ b → Improved p t k ≡ cond b (Improved (count (r .mesh)) (length (r .mesh .pair .tris)) (r .flips)) (Refused q) → (q ≡ 0) × (p ≡ count (r .mesh)) × (t ≡ length (r .mesh .pair .tris)) × (k ≡ r .flips)
+    go true f g = (eqb-true q 0 f, (cc), (cc), (cc))
+    go false f g = let z : _≡_ {A = ℕ} 0 1 = cc in absurd (omega arith)
+
+module _ {points₀ : List Float} {corners₀ labels₀ work₀ : List ℕ} {coefficients : List Float} {powers : List ℕ} {levels bounds : List Float} {n : ℕ} {points₁ : List Float} {corners₁ labels₁ work₁ : List ℕ} {p t k : ℕ} where
+  pub demand3 : Improving points₀ corners₀ labels₀ work₀ coefficients powers levels bounds n points₁ corners₁ labels₁ work₁ (Improved p t k)
+      → Demand3 points₀ corners₀ labels₀ coefficients powers n points₁ corners₁ labels₁ p t k
+  unfolding improveNumber
+  demand3 r =
+      let q = let-in (improveNumber points₀ corners₀ labels₀ work₀ coefficients powers levels bounds n) p t k (improved points₀ corners₀ labels₀ coefficients powers n) (r .answer) in
+      let a : Admitted points₀ corners₀ labels₀ work₀ = number-admitted points₀ corners₀ labels₀ work₀ (first-zero (surfaceNumber points₀ corners₀ labels₀ work₀) _ (q .0)) in
+      let thirds = a .corners-in-threes in
+      let each = a .a-label-each in
+      let labelled : length labels₀ ≡ length (triangles corners₀) = sym (length-triangles (length labels₀) corners₀ (omega arith)) in
+      record {
+        safe = λ i. safe-after (sheetOf coefficients powers) i (meshOf points₀ corners₀ labels₀) (a .closed) labelled;
+        holds = record { points = r .points; corners = r .corners; labels = r .labels };
+        points = q .1;
+        triangles = q .2;
+        flips = q .3;
+        original = same-rounds (sheetOf coefficients powers) (a .closed) labelled;
+      }
