@@ -37,4 +37,20 @@ uint32_t lanovishel_edit(const double *points, size_t point_values,
                          uint32_t *journal, size_t journal_words,
                          uint32_t answer[2]);
 
+/* Improves a surface by rounds, at most 1,000: short sides of badly shaped triangles are collapsed, the points
+ * numbered anew by first use, and sides flipped where that helps. The field sheet: up to 64 terms, each a
+ * coefficient and the powers of x, y and z, 0 to 3; the lower level, which may be -infinity, and the upper;
+ * bounds is the lower corner of a box within +-2^20, then the upper. A triangle of label 0 lies on the upper
+ * level and one of 1 on the lower; 2 to 7 are the walls of the box at lower x, upper x, lower y and so on.
+ * 0 with points left, triangles left and flips in answer; else the number of the question that the call fails,
+ * and answer is 0. points, corners and labels then hold the surface that is left, then 0. */
+uint32_t lanovishel_improve(double *points, size_t point_values,
+                            uint32_t *corners, size_t corner_numbers,
+                            uint8_t *labels, size_t label_count,
+                            uint32_t *work, size_t work_words,
+                            const double *coefficients, size_t coefficient_count,
+                            const uint32_t *powers, size_t power_count,
+                            const double levels[2], const double bounds[6],
+                            uint32_t rounds, uint32_t answer[3]);
+
 #endif

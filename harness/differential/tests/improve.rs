@@ -1,5 +1,9 @@
 //! Improving beside the original's rounds: points to the bit, every list, the flips.
-use differential::{cases, improving, note_absence, report, surfaces::octahedron};
+use differential::{
+    call::Call,
+    cases, checking, improving, note_absence, report,
+    surfaces::{Surface, octahedron},
+};
 use lanovishel::{Field, Improved, Refused};
 
 #[test]
@@ -58,4 +62,26 @@ fn the_most_rounds() {
     assert_eq!(run(0), Ok(unchanged));
     assert!(run(1_000).is_ok());
     assert_eq!(run(1_001), Err(Refused(14)));
+}
+
+/// The smallest input of docs/DIFFERENCES.md: the original folds a tetrahedron flat.
+#[test]
+fn a_tetrahedron_with_a_short_side() {
+    let surface = Surface {
+        points: vec![0., 0., 0., 0.25, 0., 0., 0., 1., 0., 0., 0., 1.],
+        corners: vec![0, 2, 1, 0, 1, 3, 0, 3, 2, 1, 2, 3],
+        labels: vec![0; 4],
+    };
+    let mut call = Call::new(surface, 192);
+    (call.coefficients, call.powers) = (vec![1.0], vec![1, 0, 0]);
+    (call.levels, call.bounds) = ([0.0, 1.0], [-2., -2., -2., 2., 2., 2.]);
+    call.rounds = 1;
+    let after = improving::ours(&call);
+    assert_eq!((after.number, after.answer), (0, [4, 4, 0]));
+    assert_eq!(after.surface.corners, [0, 1, 2, 0, 2, 3, 0, 3, 1, 2, 1, 3]);
+    let mut theirs = checking::mesh(&call.surface);
+    if let Some(flips) = original::improve(&mut theirs, &improving::told(&call)) {
+        assert_eq!(flips, Ok(0));
+        assert_eq!(theirs.faces, [[0, 1, 2], [0, 2, 1]]);
+    }
 }

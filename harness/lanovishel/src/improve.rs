@@ -32,22 +32,24 @@ pub struct Improved {
 /// anew, and sides are flipped where that makes the triangles better. The surface stays closed.
 ///
 /// ```
-/// // A sphere's octahedron has nothing to improve.
+/// // An octahedron of a sphere, with a seventh point too close to the first.
 /// let mut points = [
-///     1., 0., 0., -1., 0., 0., 0., 1., 0., 0., -1., 0., 0., 0., 1., 0., 0., -1.,
+///     1., 0., 0., -1., 0., 0., 0., 1., 0., 0., -1., 0., 0., 0., 1., 0., 0., -1., 0.96, 0.28, 0.,
 /// ];
 /// let mut corners = [
-///     0, 2, 4, 2, 1, 4, 1, 3, 4, 3, 0, 4, 2, 0, 5, 1, 2, 5, 3, 1, 5, 0, 3, 5,
+///     0, 6, 4, 6, 2, 4, 2, 1, 4, 1, 3, 4, 3, 0, 4, 2, 6, 5, 6, 0, 5, 1, 2, 5, 3, 1, 5, 0, 3, 5,
 /// ];
-/// let mut work = vec![0; lanovishel::work_words(6, 8)];
+/// let mut work = vec![0; lanovishel::work_words(7, 10)];
 /// let field = lanovishel::Field {
 ///     coefficients: &[1., 1., 1.],
 ///     powers: &[2, 0, 0, 0, 2, 0, 0, 0, 2],
 ///     levels: [f64::NEG_INFINITY, 1.],
 ///     bounds: [-2., -2., -2., 2., 2., 2.],
 /// };
-/// let left = lanovishel::improve(&mut points, &mut corners, &mut [0; 8], &mut work, &field, 5);
+/// let left = lanovishel::improve(&mut points, &mut corners, &mut [0; 10], &mut work, &field, 1);
 /// assert_eq!(left, Ok(lanovishel::Improved { points: 6, triangles: 8, flips: 0 }));
+/// assert_eq!(corners[..3], [0, 1, 2]);
+/// assert_eq!(points[3..6], [0., 1., 0.]);
 /// ```
 ///
 /// # Errors
