@@ -1,4 +1,4 @@
--- Demand 3 of document 01, one claim about a whole call of `edit`; `demand3` of proofs/Demand3 proves it of every call that is let in. Definitions only.
+-- Demand 3 of document 01, one claim about a whole call of `edit`; `demand3` of proofs/Demand3 proves it of every call that is let in. Its last sentence, on the rounds of the improver, is `improving/specs/Demand3`, which completes it. Definitions only.
 use Prim.Native.Nat.{ℕ, _/_}
 use mathlib.Core.Path.{_≡_}
 use mathlib.Core.List.{List}
