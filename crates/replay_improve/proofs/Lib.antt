@@ -1,0 +1,2 @@
+-- `Onward`: a vector that begins later ends later.
+pub mod Onward

@@ -1,0 +1,2 @@
+-- `Replay`: where the next vector begins.
+pub mod Replay

@@ -1,2 +1,0 @@
--- `Float`: a float kept in two words.
-pub mod Float
