@@ -12,9 +12,9 @@ use borrow.Author.Tests.{eqb-true, eqb-false}
 use Rattle.surface.specs.Triangle.{Tri, triangles}
 use Rattle.surface.specs.Closed.{one, sides, Closed}
 use Rattle.surface.proofs.Bridge.{closed-surface}
-use Rattle.places.specs.Place.{nx, pv, at}
-use Rattle.places.proofs.Turns.{same-or}
-use Rattle.places.proofs.Fine.{apart-cases}
+use Rattle.halfedges.specs.Place.{nx, pv, at}
+use Rattle.halfedges.proofs.Turns.{same-or}
+use Rattle.halfedges.proofs.Fine.{apart-cases}
 use Rattle.chains.specs.Chain.{Next, from, from-next, spot, Onward}
 use Rattle.chains.specs.Flat.{runs-side, side-runs, Runs}
 use Rattle.chains.specs.Marks.{Lists, below-next, below-last, Stamping}

@@ -8,9 +8,9 @@ use mathlib.Core.List.{List}
 use lib.Dec.{eqb}
 use lib.ListN.{length}
 use borrow.Author.Tests.{eqb-true, eqb-false, eq-eqb, ne-eqb}
-use Rattle.places.specs.Place.{at}
-use Rattle.places.proofs.Turns.{same-or}
-use Rattle.places.proofs.Fine.{apart-cases}
+use Rattle.halfedges.specs.Place.{at}
+use Rattle.halfedges.proofs.Turns.{same-or}
+use Rattle.halfedges.proofs.Fine.{apart-cases}
 
 -- one more than the first place of v among the d places from i on, 0 where there is none
 abbrev pub firstIf : Bool → ℕ → ℕ → ℕ

@@ -5,7 +5,7 @@ use mathlib.Core.Path.{_≡_, refl, sym, ap, _∙_, subst}
 use mathlib.Core.List.{List, [], _∷_, _++_, append-assoc, append-nil}
 use lib.ListN.{length, take, drop, replicate, length-replicate, getD-replicate, List·getD-append, length-append, length-take, length-drop, drop-of-length-le}
 use lib.Seq.{getD-append-add, getD-drop, getD-take, take-all, length-take-le, drop-drop}
-use Rattle.places.specs.Place.{at}
+use Rattle.halfedges.specs.Place.{at}
 use Rattle.chains.specs.Chain.{Chained}
 use Rattle.chains.specs.Marks.{Cleared, chained-part}
 

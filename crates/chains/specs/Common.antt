@@ -22,7 +22,7 @@ use Rattle.rounds.specs.Choices.{common}
 use Rattle.rounds.proofs.Near.{near-next, near-side}
 use Rattle.rounds.proofs.FirstUse.{has-corner}
 use Rattle.rounds.proofs.Choices.{all-mem}
-use Rattle.places.specs.Place.{nx, pv, at}
+use Rattle.halfedges.specs.Place.{nx, pv, at}
 use Rattle.sides.specs.Side.{Twin}
 use Rattle.sides.specs.Twins.{twin-back}
 use Rattle.chains.specs.Hinges.{hingeOf, Ordered, ahead, behind, ordered}

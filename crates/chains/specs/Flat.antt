@@ -13,8 +13,8 @@ use Rattle.surface.specs.Edit.{place}
 use Rattle.surface.proofs.Reading.{Reads, r0, r1, r2, Has, has-side, side-has}
 use Rattle.surface.proofs.Places.{place-has, Placed, has-place}
 use Rattle.surface.proofs.Flat.{place-triangles, length-triangles}
-use Rattle.places.specs.Place.{nx, pv, at, uses}
-use Rattle.places.proofs.Steps.{around-places, length-pl}
+use Rattle.halfedges.specs.Place.{nx, pv, at, uses}
+use Rattle.halfedges.proofs.Steps.{around-places, length-pl}
 
 -- a list of thirds has a triangle for each three places
 pub thirds-length : (c : List ℕ) → length c % 3 ≡ 0 → 3 * length (triangles c) ≡ length c

@@ -10,7 +10,7 @@ use Rattle.surface.specs.Closed.{sides, Closed}
 use Rattle.surface.specs.Edit.{Hinge, hinge, place}
 use Rattle.surface.proofs.Bridge.{closed-surface}
 use Rattle.surface.proofs.Hinged.{Hinged, hinged}
-use Rattle.places.specs.Place.{nx, pv, at}
+use Rattle.halfedges.specs.Place.{nx, pv, at}
 use Rattle.sides.specs.Side.{Twin, Met}
 use Rattle.sides.specs.Met.{met-of}
 use Rattle.chains.specs.Flat.{triangle-low, runs-side, Spot, reads-spot}

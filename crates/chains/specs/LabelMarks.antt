@@ -16,8 +16,8 @@ use Rattle.surface.proofs.Bools.{both, join, or-cases}
 use Rattle.surface.proofs.Bridge.{reads-name}
 use Rattle.surface.proofs.Reading.{Reads, r0, r1, r2}
 use Rattle.surface.specs.Label.{carries}
-use Rattle.places.specs.Place.{nx, pv, at}
-use Rattle.places.proofs.Turns.{same-or}
+use Rattle.halfedges.specs.Place.{nx, pv, at}
+use Rattle.halfedges.proofs.Turns.{same-or}
 use Rattle.chains.specs.Flat.{thirds-length, triangle-low, place-reads, Spot, reads-spot}
 use Rattle.chains.specs.Common.{same-test}
 use Rattle.chains.specs.Marks.{Lists}

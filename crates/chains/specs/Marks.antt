@@ -12,9 +12,9 @@ use lib.Seq.{getD-set-same, getD-set-other}
 use borrow.Author.Tests.{eqb-true, eqb-false, eq-eqb, ne-eqb}
 use Rattle.surface.specs.Triangle.{Tri, triangles}
 use Rattle.surface.specs.Closed.{one, sides, Closed}
-use Rattle.places.specs.Place.{nx, pv, at, uses}
-use Rattle.places.proofs.Fine.{nx-below, pv-below}
-use Rattle.places.proofs.Turns.{same-or}
+use Rattle.halfedges.specs.Place.{nx, pv, at, uses}
+use Rattle.halfedges.proofs.Fine.{nx-below, pv-below}
+use Rattle.halfedges.proofs.Turns.{same-or}
 use Rattle.sides.specs.Side.{Twin}
 use Rattle.sides.specs.Twins.{twin-back, twin-twice}
 use Rattle.sides.specs.Met.{met-of}

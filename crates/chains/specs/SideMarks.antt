@@ -11,8 +11,8 @@ use lib.Seq.{getD-set-same, getD-set-other}
 use Rattle.surface.specs.Triangle.{Tri, triangles}
 use Rattle.surface.specs.Closed.{one, sides, Closed}
 use Rattle.surface.proofs.Bools.{true-false}
-use Rattle.places.specs.Place.{nx, pv, at, uses}
-use Rattle.places.proofs.Turns.{same-or}
+use Rattle.halfedges.specs.Place.{nx, pv, at, uses}
+use Rattle.halfedges.proofs.Turns.{same-or}
 use Rattle.sides.specs.Side.{Twin}
 use Rattle.sides.specs.Twins.{twin-back, twin-twice}
 use Rattle.sides.specs.Met.{met-of}

@@ -8,10 +8,10 @@ use lib.Dec.{ltb}
 use lib.ListN.{length, drop, replicate, length-replicate, getD-replicate, List·getD-append}
 use lib.Seq.{drop-drop, drop-at}
 use borrow.Author.Tests.{ltb-true, ltb-false}
-use Rattle.places.specs.Place.{at, Sized}
-use Rattle.places.proofs.Fine.{Fine, fine-of, rounded-of, fine-unused, unused-past}
-use Rattle.places.proofs.Steps.{length-pl}
-use Rattle.places.proofs.Whole.{Enough}
+use Rattle.halfedges.specs.Place.{at, Sized}
+use Rattle.halfedges.proofs.Fine.{Fine, fine-of, rounded-of, fine-unused, unused-past}
+use Rattle.halfedges.proofs.Steps.{length-pl}
+use Rattle.halfedges.proofs.Whole.{Enough}
 use Rattle.closing.specs.Closing.{needed, Lent}
 use Rattle.closing.specs.Stages.{used, Chained, Ready, AllJudged, Settled}
 

@@ -5,10 +5,10 @@ use mathlib.Core.Bool.{Bool, true, false}
 use mathlib.Core.List.{List, _++_}
 use lib.ListN.{length, drop, replicate}
 use Rattle.surface.specs.Triangle.{triangles}
-use Rattle.places.specs.Place.{at, Sized, Linked, stamp, Stamped, Noted, Once, uses}
+use Rattle.halfedges.specs.Place.{at, Sized, Linked, stamp, Stamped, Noted, Once, uses}
 use Rattle.surface.specs.Closed.{Manifold}
-use Rattle.places.proofs.Fine.{Fine}
-use Rattle.places.proofs.Whole.{Enough, Differing}
+use Rattle.halfedges.proofs.Fine.{Fine}
+use Rattle.halfedges.proofs.Whole.{Enough, Differing}
 use Rattle.closing.specs.Closing.{Zeroed}
 
 -- how many words the judgement uses: a head, a stamp and a note for each point, a link for each place

@@ -2,15 +2,15 @@
 // The places of each corner are chained; at each corner v the step of each of its triangles, from x to y, is noted under x with a stamp of v. The x's differ where no directed side occurs twice,
 // and following the notes leads through all of them and back where every reverse is there and the triangles are one ring.
 // The work words: from 0 on a head for each point, from points on a stamp and a note for each point, from 3 * points on a link for each place of the corner list.
-use places::after;
-use places::before;
-use places::wide;
+use halfedges::after;
+use halfedges::before;
+use halfedges::wide;
 ghost use mathlib.Core.Path.{_≡_};
 ghost use mathlib.Core.Bool.{true, false};
 ghost use mathlib.Core.List.{_++_};
 ghost use Prim.Native.Nat.{ℕ, _+_, _%_, _<_, _≤_};
 ghost use lib.ListN.{length, drop, replicate};
-ghost use Rattle.places.specs.Place.{at, hopTo, trip, Sized, Inside};
+ghost use Rattle.halfedges.specs.Place.{at, hopTo, trip, Sized, Inside};
 ghost use Rattle.closing.specs.Closing.{Lent, Decided, ClosedDecided};
 ghost use Rattle.closing.specs.Stages.{Chained, Ready, Entered, Judged, AllJudged, Settled, Told};
 

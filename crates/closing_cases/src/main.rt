@@ -1,7 +1,7 @@
 // Runs the judgement of closedness on small triangle lists and writes what it says of each.
 // A list is written as digits, a corner each; other characters part the triangles.
+use halfedges::wide;
 use libc::STDOUT_FILENO;
-use places::wide;
 ghost use mathlib.Core.Path.{_≡_};
 ghost use mathlib.Core.Bool.{true};
 ghost use Prim.Native.Nat.{ℕ, _<_, _≤_};

@@ -15,7 +15,7 @@ use Rattle.float.specs.Point.{times}
 use Rattle.field.specs.Number.{plusZero, counted}
 use Rattle.surface.specs.Triangle.{triangles}
 use Rattle.surface.specs.Closed.{one}
-use Rattle.places.specs.Place.{at}
+use Rattle.halfedges.specs.Place.{at}
 use Rattle.sides.specs.Side.{Twin, sorted}
 use Rattle.sides.specs.Order.{among-at}
 use Rattle.sorting.specs.Stable as Stable

@@ -7,7 +7,7 @@ use lib.ListN.{length, take, drop, length-take, length-drop}
 use lib.Seq.{ext-getD}
 use Rattle.surface.specs.Triangle.{triangles}
 use Rattle.surface.specs.Closed.{Closed}
-use Rattle.places.specs.Place.{at}
+use Rattle.halfedges.specs.Place.{at}
 use Rattle.sides.specs.Side.{Twin, sides-from}
 use Rattle.sides.specs.Whole.{Listed}
 use Rattle.sides.specs.Valence.{Valued}

@@ -11,7 +11,7 @@ use lib.Ieee.{Float}
 use Rattle.surface.specs.Triangle.{Tri, tri, triangles}
 use Rattle.surface.specs.Edit.{place}
 use Rattle.surface.proofs.Flat.{place-triangles}
-use Rattle.places.specs.Place.{at}
+use Rattle.halfedges.specs.Place.{at}
 use Rattle.sides.specs.Side.{Twin, sorted}
 use Rattle.sides.specs.Order.{Upward, among-at}
 use Rattle.sorting.specs.Stable.{part}

@@ -1,6 +1,6 @@
 // One entry done on the lists that a run holds: a flip, a collapse, and the last edit taken back.
 use closing::clear;
-use places::wide;
+use halfedges::wide;
 use surface::put_triangle;
 use surface::triangle_at;
 use verdicts::Found;

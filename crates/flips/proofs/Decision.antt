@@ -18,12 +18,12 @@ use Rattle.surface.specs.Edit.{Hinge, hinge, place}
 use Rattle.surface.proofs.Bridge.{closed-surface}
 use Rattle.surface.specs.Laws.{FourDiffer}
 use Rattle.surface.proofs.Laws.{hinge-differ}
-use Rattle.places.specs.Place.{nx, pv, at, uses}
-use Rattle.places.specs.Place as Place
-use Rattle.places.proofs.Chains.{uses-suc}
-use Rattle.places.proofs.Turns.{same-or}
-use Rattle.places.proofs.Whole.{nx-pv}
-use Rattle.places.proofs.Fine.{nx-below, pv-below}
+use Rattle.halfedges.specs.Place.{nx, pv, at, uses}
+use Rattle.halfedges.specs.Place as Place
+use Rattle.halfedges.proofs.Chains.{uses-suc}
+use Rattle.halfedges.proofs.Turns.{same-or}
+use Rattle.halfedges.proofs.Whole.{nx-pv}
+use Rattle.halfedges.proofs.Fine.{nx-below, pv-below}
 use Rattle.sides.specs.Side.{Twin, Met}
 use Rattle.sides.specs.Met.{met-of}
 use Rattle.sides.specs.Twins.{twin-twice}

@@ -13,8 +13,8 @@ use Rattle.surface.specs.Triangle.{Tri, tri, triangles}
 use Rattle.surface.specs.Closed.{one, sides}
 use Rattle.surface.specs.Edit.{Hinge}
 use Rattle.surface.proofs.Flat.{set-triangles}
-use Rattle.places.specs.Place.{nx, pv, at}
-use Rattle.places.proofs.Fine.{nx-below}
+use Rattle.halfedges.specs.Place.{nx, pv, at}
+use Rattle.halfedges.proofs.Fine.{nx-below}
 use Rattle.sides.specs.Side.{Twin}
 use Rattle.sorting.specs.Stable.{part}
 use Rattle.sorting.proofs.Parts.{part-length}

@@ -8,8 +8,8 @@ use lib.Seq.{ext-getD}
 use lib.Ieee.{Float}
 use Rattle.surface.specs.Triangle.{Tri, triangles}
 use Rattle.surface.specs.Closed.{Closed, sides}
-use Rattle.places.specs.Place.{nx, pv, at, uses, Sized}
-use Rattle.places.proofs.Fine.{nx-below}
+use Rattle.halfedges.specs.Place.{nx, pv, at, uses, Sized}
+use Rattle.halfedges.proofs.Fine.{nx-below}
 use Rattle.sides.specs.Side.{Twin, sorted, sides-from}
 use Rattle.sides.specs.Whole.{Handed, Listed}
 use Rattle.sides.specs.Valence.{Valued}

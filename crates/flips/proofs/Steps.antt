@@ -14,8 +14,8 @@ use Rattle.float.specs.Order.{lesser, greater}
 use Rattle.float.specs.Point.{plus}
 use Rattle.surface.specs.Triangle.{tri}
 use Rattle.surface.specs.Closed.{one}
-use Rattle.places.specs.Place.{nx, pv, at}
-use Rattle.places.proofs.Fine.{nx-below, pv-below}
+use Rattle.halfedges.specs.Place.{nx, pv, at}
+use Rattle.halfedges.proofs.Fine.{nx-below, pv-below}
 use Rattle.sides.specs.Side.{Twin}
 use Rattle.sorting.specs.Stable.{part}
 use Rattle.oracle.specs.Number.{gainLeast, shapeEnough}

@@ -12,8 +12,8 @@ use lib.Ieee.{Float, binary64, fits}
 use lib.Ieee.Fits.{div-fits}
 use Rattle.field.specs.Shape.{shape}
 use Rattle.surface.specs.Closed.{one}
-use Rattle.places.specs.Place.{nx, at}
-use Rattle.places.proofs.Turns.{same-or}
+use Rattle.halfedges.specs.Place.{nx, at}
+use Rattle.halfedges.proofs.Turns.{same-or}
 use Rattle.sorting.specs.Stable.{part}
 use Rattle.sorting.proofs.Parts.{part-cons, part-none}
 use Rattle.rounds.specs.Choices.{Side, flipStep, flipStart, flipPass, flipsOf}

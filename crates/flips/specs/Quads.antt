@@ -11,7 +11,7 @@ use Rattle.float.specs.Order.{lesser, greater}
 use Rattle.float.specs.Point.{plus}
 use Rattle.surface.specs.Triangle.{tri, triangles}
 use Rattle.surface.specs.Closed.{Closed, one, sides}
-use Rattle.places.specs.Place.{nx, pv, at, uses}
+use Rattle.halfedges.specs.Place.{nx, pv, at, uses}
 use Rattle.sides.specs.Side.{Twin}
 use Rattle.sorting.specs.Stable.{part}
 use Rattle.oracle.specs.Number.{gainLeast, shapeEnough}

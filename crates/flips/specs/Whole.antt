@@ -6,7 +6,7 @@ use lib.ListN.{length}
 use lib.Ieee.{Float}
 use Rattle.surface.specs.Triangle.{triangles}
 use Rattle.surface.specs.Closed.{Closed, sides}
-use Rattle.places.specs.Place.{nx, pv, at, uses}
+use Rattle.halfedges.specs.Place.{nx, pv, at, uses}
 use Rattle.sides.specs.Side.{Twin, sorted}
 use Rattle.sides.specs.Order.{Sorted}
 use Rattle.sorting.specs.Stable.{part}

@@ -1,11 +1,11 @@
 // The flip pass of a round: each side of two triangles with one label, in rising order, is flipped where that helps the worse shape or evens the degrees.
 use float::max;
 use float::min;
+use halfedges::after;
+use halfedges::before;
 use marks::chain_at;
 use marks::clear_from;
 use marks::mark_across;
-use places::after;
-use places::before;
 use scores::get_float;
 use scores::put_float;
 use scores::score;
@@ -20,7 +20,7 @@ ghost use Prim.Native.Nat.{ℕ, _+_, _*_, _/_, _%_, _<_, _≤_};
 ghost use lib.ListN.{length};
 ghost use Rattle.surface.specs.Triangle.{triangles};
 ghost use Rattle.surface.specs.Closed.{Closed, one};
-ghost use Rattle.places.specs.Place.{at};
+ghost use Rattle.halfedges.specs.Place.{at};
 ghost use Rattle.sorting.specs.Stable.{part};
 ghost use Rattle.oracle.specs.Scene.{scene};
 ghost use Rattle.scores.specs.Words.{Held};

@@ -22,7 +22,23 @@ use Rattle.improving.specs.declared.Outcome.{Outcome}
 use Rattle.improving.specs.declared.Outcome.the-variants.{Improved, Refused}
 use Rattle.improving.proofs.Running.{fine-first}
 
--- a surface that passes the questions, with the needed words of those lent
+-- a surface that passes the questions may be improved, with the needed words
+pub improvable-in : {ps : List Float} {c ls w : List ℕ} → Admitted ps c ls w → (v : List ℕ) → needed ps c ≤ length v → Improvable ps c ls v
+improvable-in {ps} {c} {ls} a v r =
+    let t = a .corners-in-threes in
+    let e = a .a-label-each in
+    let n = a .few-triangles in
+    record {
+      lists = record { thirds = t; few = omega arith; points = a .few-points; below = a .listed };
+      coords = a .points-in-threes;
+      labelled = record { size = omega arith; small = λ i l. let k = a .known i l in omega arith };
+      closed = a .closed;
+      room = omega arith;
+    }
+
+pub improvable-of : {ps : List Float} {c ls w : List ℕ} → Admitted ps c ls w → Improvable ps c ls w
+improvable-of {w = w} a = improvable-in a w (a .enough-words)
+
 module _ {ps : List Float} {c ls w w′ : List ℕ} {number : ℕ} (q : Admits ps c ls w w′ number) (z : number ≡ 0) (same : length w′ ≡ length w) where
   admits : Admitted ps c ls w
   admits = number-admitted ps c ls w (sym (q .answer) ∙ z)
@@ -31,17 +47,7 @@ module _ {ps : List Float} {c ls w w′ : List ℕ} {number : ℕ} (q : Admits p
   room = let x = admits .enough-words in omega arith
 
   pub handed : Improvable ps c ls (take (length c / 3 * 32 + length ps / 3 * 16) w′)
-  handed =
-      let t = admits .corners-in-threes in
-      let e = admits .a-label-each in
-      let n = admits .few-triangles in
-      record {
-        lists = record { thirds = t; few = omega arith; points = admits .few-points; below = admits .listed };
-        coords = admits .points-in-threes;
-        labelled = record { size = omega arith; small = λ i l. let k = admits .known i l in omega arith };
-        closed = admits .closed;
-        room = let x = length-take-le (length c / 3 * 32 + length ps / 3 * 16) w′ room in omega arith;
-      }
+  handed = improvable-in admits _ (let x = length-take-le (length c / 3 * 32 + length ps / 3 * 16) w′ room in omega arith)
 
   -- the rounds leave as many words as they are lent
   pub words-stay : (v : List ℕ) → length v ≡ length (take (length c / 3 * 32 + length ps / 3 * 16) w′) → length c / 3 * 32 + length ps / 3 * 16 ≤ length (v ++ drop (length c / 3 * 32 + length ps / 3 * 16) w′)

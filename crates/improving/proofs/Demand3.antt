@@ -1,6 +1,6 @@
 -- Demand 3 of the rounds: it holds of every call of `improve` that is let in, by what `improve` promises of every call and by the theorems on rounds.
-use Prim.Native.Nat.{ℕ, _*_, _/_}
-use mathlib.Core.Path.{_≡_, refl, sym, _∙_, ap}
+use Prim.Native.Nat.{ℕ, _/_, _≤_}
+use mathlib.Core.Path.{_≡_, refl}
 use mathlib.Core.Bool.{Bool, true, false, cond}
 use mathlib.Core.List.{List}
 use native.Mathlib.Omega.{arith}
@@ -8,8 +8,6 @@ use lib.Dec.{eqb}
 use lib.ListN.{length}
 use lib.Ieee.{Float}
 use borrow.Author.Tests.{eqb-true}
-use Rattle.surface.specs.Triangle.{triangles}
-use Rattle.surface.proofs.Flat.{length-triangles}
 use Rattle.questions.specs.Questions.{surfaceNumber}
 use Rattle.questions.specs.Admitted.{Admitted}
 use Rattle.questions.proofs.Laws.{number-admitted, first-zero}
@@ -21,6 +19,8 @@ use Rattle.improving.specs.Improve.{improveNumber, improved, answerOf, I
 use Rattle.improving.specs.Demand3.{Demand3}
 use Rattle.improving.specs.declared.Outcome.{Outcome}
 use Rattle.improving.specs.declared.Outcome.the-variants.{Improved, Refused}
+use Rattle.improving.proofs.Running.{Fine, fine-first, fine-after}
+use Rattle.improving.proofs.Call.{improvable-of}
 
 -- an answer of three numbers is that of the rounds, and no question was answered by "no"
 let-in : (q p t k : ℕ) (r : Result) → Improved p t k ≡ answerOf q r → (q ≡ 0) × (p ≡ count (r .mesh)) × (t ≡ length (r .mesh .pair .tris)) × (k ≡ r .flips)
@@ -30,21 +30,44 @@ let-in q p t k r e = go (eqb q 0) refl e
     go true f g = (eqb-true q 0 f, (cc), (cc), (cc))
     go false f g = let z : _≡_ {A = ℕ} 0 1 = cc in absurd (omega arith)
 
-module _ {points₀ : List Float} {corners₀ labels₀ work₀ : List ℕ} {coefficients : List Float} {powers : List ℕ} {levels bounds : List Float} {n : ℕ} {points₁ : List Float} {corners₁ labels₁ work₁ : List ℕ} {p t k : ℕ} where
-  pub demand3 : Improving points₀ corners₀ labels₀ work₀ coefficients powers levels bounds n points₁ corners₁ labels₁ work₁ (Improved p t k)
-      → Demand3 points₀ corners₀ labels₀ coefficients powers n points₁ corners₁ labels₁ p t k
+module _ {points₀ : List Float} {corners₀ labels₀ work₀ : List ℕ} {coefficients : List Float} {powers : List ℕ} {levels bounds : List Float} {n : ℕ} {points₁ : List Float} {corners₁ labels₁ work₁ : List ℕ} {p t k : ℕ}
+    (r : Improving points₀ corners₀ labels₀ work₀ coefficients powers levels bounds n points₁ corners₁ labels₁ work₁ (Improved p t k)) where
+  answered : (improveNumber points₀ corners₀ labels₀ work₀ coefficients powers levels bounds n ≡ 0) × (p ≡ count (improved points₀ corners₀ labels₀ coefficients powers n .mesh))
+      × (t ≡ length (improved points₀ corners₀ labels₀ coefficients powers n .mesh .pair .tris)) × (k ≡ improved points₀ corners₀ labels₀ coefficients powers n .flips)
+  answered = let-in (improveNumber points₀ corners₀ labels₀ work₀ coefficients powers levels bounds n) p t k (improved points₀ corners₀ labels₀ coefficients powers n) (r .answer)
+
+  passed : Admitted points₀ corners₀ labels₀ work₀
   unfolding improveNumber
-  demand3 r =
-      let q = let-in (improveNumber points₀ corners₀ labels₀ work₀ coefficients powers levels bounds n) p t k (improved points₀ corners₀ labels₀ coefficients powers n) (r .answer) in
-      let a : Admitted points₀ corners₀ labels₀ work₀ = number-admitted points₀ corners₀ labels₀ work₀ (first-zero (surfaceNumber points₀ corners₀ labels₀ work₀) _ (q .0)) in
-      let thirds = a .corners-in-threes in
-      let each = a .a-label-each in
-      let labelled : length labels₀ ≡ length (triangles corners₀) = sym (length-triangles (length labels₀) corners₀ (omega arith)) in
+  passed = number-admitted points₀ corners₀ labels₀ work₀ (first-zero (surfaceNumber points₀ corners₀ labels₀ work₀) _ (answered .0))
+
+  fine : Fine (length points₀ / 3) (length labels₀) (meshOf points₀ corners₀ labels₀)
+  fine = fine-first (improvable-of passed)
+
+  pub demand3 : Demand3 points₀ corners₀ labels₀ coefficients powers n points₁ corners₁ labels₁ p t k
+  demand3 =
+      let g = fine-after (sheetOf coefficients powers) fine n in
+      let ep = answered .1 in
+      let et = answered .2 in
+      let a = g .few-points in
+      let b = g .few-triangles in
+      let c = g .labelled in
       record {
-        safe = λ i. safe-after (sheetOf coefficients powers) i (meshOf points₀ corners₀ labels₀) (a .closed) labelled;
+        safe = λ i. safe-after (sheetOf coefficients powers) i (meshOf points₀ corners₀ labels₀) (passed .closed) (fine .labelled);
         holds = record { points = r .points; corners = r .corners; labels = r .labels };
-        points = q .1;
-        triangles = q .2;
-        flips = q .3;
-        original = same-rounds (sheetOf coefficients powers) (a .closed) labelled;
+        points = answered .1;
+        triangles = answered .2;
+        flips = answered .3;
+        no-more-points = omega arith;
+        no-more-triangles = omega arith;
+        original = same-rounds (sheetOf coefficients powers) (passed .closed) (fine .labelled);
       }
+
+  -- so few that they fit a word
+  pub left-few : (p ≤ 32768) × (t ≤ 32768)
+  left-few =
+      let x = demand3 .no-more-points in
+      let y = demand3 .no-more-triangles in
+      let a = passed .few-points in
+      let b = passed .few-triangles in
+      let c = passed .a-label-each in
+      (omega arith, omega arith)

@@ -9,7 +9,7 @@ use lib.Ieee.{Float}
 use Rattle.surface.specs.Triangle.{Tri, tri, triangles, corners}
 use Rattle.surface.specs.Edit.{place}
 use Rattle.surface.proofs.Flat.{place-triangles, corners-triangles, length-corners}
-use Rattle.places.specs.Place.{at}
+use Rattle.halfedges.specs.Place.{at}
 use Rattle.chains.specs.Flat.{thirds-length}
 use Rattle.history.specs.History.{Pair}
 use Rattle.history.specs.Lists.{thenZero}

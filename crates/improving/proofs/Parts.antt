@@ -11,8 +11,8 @@ use Rattle.field.specs.Number.{plusZero}
 use Rattle.surface.specs.Triangle.{Tri, triangles, corners}
 use Rattle.surface.specs.Closed.{Closed}
 use Rattle.surface.proofs.Flat.{triangles-corners, corners-triangles}
-use Rattle.places.specs.Place.{at}
-use Rattle.places.proofs.Fine.{nx-below}
+use Rattle.halfedges.specs.Place.{at}
+use Rattle.halfedges.proofs.Fine.{nx-below}
 use Rattle.sides.specs.Side.{sorted}
 use Rattle.sides.specs.Met.{met-of}
 use Rattle.sides.specs.Count.{half}

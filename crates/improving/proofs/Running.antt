@@ -16,7 +16,7 @@ use Rattle.surface.proofs.Flat.{triangles-corners, corners-triangles, length-co
 use Rattle.surface.proofs.Euler.{use-has}
 use Rattle.surface.proofs.Bridge.{in-use}
 use Rattle.surface.proofs.Places.{has-place}
-use Rattle.places.specs.Place.{at, nx, pv}
+use Rattle.halfedges.specs.Place.{at, nx, pv}
 use Rattle.chains.specs.Flat.{thirds-length, place-at, reads-spot}
 use Rattle.chains.specs.Marks.{Lists}
 use Rattle.history.specs.Lists.{thenZero}
@@ -81,6 +81,15 @@ fine-next f {p} {n} {m} h =
 -- more points and triangles may be allowed
 pub fine-within : {p n p′ n′ : ℕ} {m : Mesh} → p ≤ p′ → n ≤ n′ → Fine p n m → Fine p′ n′ m
 fine-within a b h = record { closed = h .closed; labelled = h .labelled; whole = h .whole; below = h .below; small = h .small; few-points = let x = h .few-points in omega arith; few-triangles = let x = h .few-triangles in omega arith }
+
+-- and so after any number of rounds
+pub fine-after : (f : Sheet) {p n : ℕ} {m : Mesh} → Fine p n m → (r : ℕ) → Fine p n (after f r m)
+unfolding rounds
+fine-after f h zero = h
+fine-after f {p} {n} {m} h (suc r) =
+    let g = fine-after f h r in
+    let s = safe-after f r m (h .closed) (h .labelled) in
+    subst (Fine p n) (sym (s .made)) (fine-within (g .few-points) (g .few-triangles) (fine-next f g))
 
 -- the lists that may be improved are such a mesh
 pub fine-first : {ps : List Float} {c ls w : List ℕ} → Improvable ps c ls w → Fine (length ps / 3) (length ls) (meshOf ps c ls)

@@ -1,5 +1,5 @@
 -- The last sentence of demand 3 (document 01, "Entry and journal"), of a whole call of `improve`; `demand3` of proofs/Demand3 proves it of every call that is let in. With `demand3` of `editing` demand 3 is complete. Definitions only.
-use Prim.Native.Nat.{ℕ}
+use Prim.Native.Nat.{ℕ, _/_, _≤_}
 use mathlib.Core.Path.{_≡_}
 use mathlib.Core.Bool.{false}
 use mathlib.Core.List.{List}
@@ -18,9 +18,11 @@ pub record Demand3 (points₀ : List Float) (corners₀ labels₀ : List ℕ) (c
   pub safe : (i : ℕ) → SafeAfter (sheetOf coefficients powers) (meshOf points₀ corners₀ labels₀) i
   -- The lent lists are what n such rounds leave, then 0.
   pub holds : Holds (improved points₀ corners₀ labels₀ coefficients powers n .mesh) points₀ corners₀ labels₀ points₁ corners₁ labels₁
-  -- Points left, triangles left and flips are theirs.
+  -- Points left, triangles left and flips are theirs; there are no more points and triangles than were lent.
   pub points : p ≡ count (improved points₀ corners₀ labels₀ coefficients powers n .mesh)
   pub triangles : t ≡ length (improved points₀ corners₀ labels₀ coefficients powers n .mesh .pair .tris)
   pub flips : k ≡ improved points₀ corners₀ labels₀ coefficients powers n .flips
+  pub no-more-points : p ≤ length points₀ / 3
+  pub no-more-triangles : t ≤ length labels₀
   -- Within document 01's domain the rounds are the original's.
   pub original : Domain (sheetOf coefficients powers) n (meshOf points₀ corners₀ labels₀) → improved points₀ corners₀ labels₀ coefficients powers n ≡ rounds false (sheetOf coefficients powers) n (meshOf points₀ corners₀ labels₀)

@@ -6,7 +6,7 @@ use lib.ListN.{length}
 use lib.Ieee.{Float}
 use Rattle.surface.specs.Triangle as Triangle
 use Rattle.surface.specs.Triangle.{triangles}
-use Rattle.places.specs.Place.{at}
+use Rattle.halfedges.specs.Place.{at}
 use Rattle.history.specs.History.{Pair}
 use Rattle.history.specs.Lists.{thenZero}
 use Rattle.rounds.specs.Renumber.{renumbered, number, firstUse}

@@ -1,6 +1,5 @@
 -- `lanovishel_improve` for every call: it answers and leaves what `improve` does (`Improving`), the outcome as document 01's number and three words, which are 0 after a refusal. Definitions only.
--- The counts are given as words: points and triangles are at most 32,768.
-use Prim.Native.Nat.{ℕ, _%_, _^_}
+use Prim.Native.Nat.{ℕ}
 use mathlib.Core.Path.{_≡_}
 use mathlib.Core.List.{List, [], _∷_}
 use lib.Ieee.{Float}
@@ -11,4 +10,4 @@ pub record ImproveCall (points₀ : List Float) (corners₀ labels₀ work₀ : 
   pub outcome : Outcome
   pub run : Improving points₀ corners₀ labels₀ work₀ coefficients powers levels bounds rounds points₁ corners₁ labels₁ work₁ outcome
   pub is : number ≡ numberOf outcome
-  pub answer : answer₁ ≡ pointsOf outcome % 2 ^ 32 ∷ trianglesOf outcome % 2 ^ 32 ∷ flipsOf outcome ∷ []
+  pub answer : answer₁ ≡ pointsOf outcome ∷ trianglesOf outcome ∷ flipsOf outcome ∷ []

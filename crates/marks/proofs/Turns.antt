@@ -12,8 +12,8 @@ use borrow.Author.Tests.{eqb-true, eqb-false, not-true, not-false}
 use mir.Val.{boolByte}
 use Rattle.surface.specs.Closed.{one, sides, Closed}
 use Rattle.surface.specs.Triangle.{triangles}
-use Rattle.places.specs.Place.{nx, pv, at, uses}
-use Rattle.places.proofs.Fine.{nx-below}
+use Rattle.halfedges.specs.Place.{nx, pv, at, uses}
+use Rattle.halfedges.proofs.Fine.{nx-below}
 use Rattle.sides.specs.Side.{Twin}
 use Rattle.chains.specs.Chain.{from, from-next, Chained, walk, spot, Onward, onward-start, onward-next, onward-less, Upto, upto-start, upto-next}
 use Rattle.chains.specs.Clear.{at-front}

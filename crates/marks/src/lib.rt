@@ -1,7 +1,7 @@
 // Marks in work words, linear in the triangles: chains of the places of each corner, the labels that a corner carries, the sides whose ends have only the opposite corners for common neighbours, and the corners that are joined across a side.
 // The words before `chains` are those of `sides`: the valences from points on, and the twins from 3 * points + the number of places on.
 use closing::clear;
-use places::after;
+use halfedges::after;
 use words::ahead;
 use words::behind;
 use words::put;
@@ -10,7 +10,7 @@ ghost use mathlib.Core.Path.{_≡_};
 ghost use mathlib.Core.Bool.{true, false};
 ghost use Prim.Native.Nat.{ℕ, _+_, _*_, _%_, _<_, _≤_};
 ghost use lib.ListN.{length};
-ghost use Rattle.places.specs.Place.{at, nx, pv};
+ghost use Rattle.halfedges.specs.Place.{at, nx, pv};
 ghost use Rattle.chains.specs.Chain.{Chained, walk};
 ghost use Rattle.chains.specs.Marks.{Lists, Marking, Walking, stampAt, Cleared};
 ghost use Rattle.chains.specs.Clear.{ChainedAt};

@@ -12,7 +12,7 @@ use Rattle.surface.specs.Triangle.{triangles}
 use Rattle.surface.specs.Closed.{Closed}
 use Rattle.surface.specs.Check.{differ?}
 use Rattle.surface.specs.Closed.{Manifold}
-use Rattle.places.proofs.Whole.{differ-of, differing-of}
+use Rattle.halfedges.proofs.Whole.{differ-of, differing-of}
 use Rattle.closing.specs.Closing.{Lent}
 use Rattle.closing.specs.Stages.{Told}
 use Rattle.surface.specs.Check.{every}

@@ -11,7 +11,7 @@ use borrow.Author.Tests.{eqb-true, eq-eqb}
 use Rattle.surface.specs.Triangle.{Tri, tri, triangles, names}
 use Rattle.surface.proofs.Bools.{join, not-true, true-false, or-cases}
 use Rattle.surface.proofs.Bools as bools
-use Rattle.places.specs.Place.{at}
+use Rattle.halfedges.specs.Place.{at}
 use Rattle.surface.specs.Check.{every}
 use Rattle.questions.specs.Questions.{unopposed?}
 use Rattle.surface.specs.Label.{carries}

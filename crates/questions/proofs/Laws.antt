@@ -13,7 +13,7 @@ use Rattle.float.specs.Order.{isFinite}
 use Rattle.surface.specs.Triangle.{triangles}
 use Rattle.surface.specs.Closed.{Closed}
 use Rattle.surface.specs.Check.{differ?}
-use Rattle.places.specs.Place.{at}
+use Rattle.halfedges.specs.Place.{at}
 use Rattle.surface.specs.Check.{every}
 use Rattle.questions.specs.Rules.{pairedRinged?, distinct?}
 use Rattle.questions.specs.Questions.{ask, lentNumber, known?, listed?, unopposed?, furtherNumber, surfaceNumber}

@@ -6,7 +6,7 @@ use mathlib.Core.List.{List}
 use lib.ListN.{length, drop}
 use Rattle.surface.specs.Triangle.{triangles}
 use Rattle.surface.specs.Check.{differ?}
-use Rattle.places.specs.Place.{at}
+use Rattle.halfedges.specs.Place.{at}
 use Rattle.closing.specs.Closing.{needed as lent, Zeroed}
 use Rattle.surface.specs.Check.{every}
 use Rattle.questions.specs.Questions.{ask, known?, listed?, unopposed?, furtherNumber}

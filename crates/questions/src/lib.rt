@@ -1,9 +1,9 @@
 // The questions that all calls share: whether the lent lists are a surface, and then whether it is one that may be edited.
-use places::wide;
+use halfedges::wide;
 ghost use mathlib.Core.Path.{_≡_};
 ghost use Prim.Native.Nat.{ℕ, _+_, _*_, _<_};
 ghost use Rattle.float.specs.Order.{isFinite};
-ghost use Rattle.places.specs.Place.{at};
+ghost use Rattle.halfedges.specs.Place.{at};
 ghost use Rattle.surface.specs.Check.{every};
 ghost use Rattle.questions.specs.Questions.{lentNumber, known?, listed?, Admits};
 ghost use Rattle.questions.specs.Stages.{Sized, Listed, opp, Marked, BeforeRules, Further};

@@ -12,7 +12,7 @@ use mir.Val.{boolByte}
 use Rattle.surface.specs.Triangle.{Tri, tri, triangles, corners}
 use Rattle.surface.specs.Edit.{place}
 use Rattle.surface.proofs.Flat.{length-triangles, place-triangles}
-use Rattle.places.specs.Place.{at}
+use Rattle.halfedges.specs.Place.{at}
 use Rattle.rounds.specs.Pass.{retain}
 use Rattle.rounds.specs.Renumber.{renumber, renumbered}
 use Rattle.rounds.proofs.Loops.{retain-more}

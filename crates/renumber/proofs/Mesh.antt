@@ -10,7 +10,7 @@ use lib.Seq.{length-take-le, getD-take, getD-drop, ext-getD}
 use lib.Ieee.{Float}
 use Rattle.surface.specs.Triangle.{Tri, triangles, corners}
 use Rattle.surface.proofs.Flat.{triangles-corners, corners-triangles}
-use Rattle.places.specs.Place.{at}
+use Rattle.halfedges.specs.Place.{at}
 use Rattle.history.specs.History.{Pair}
 use Rattle.rounds.specs.Pass.{State, retain, result}
 use Rattle.rounds.specs.Renumber.{renumbered, met, firstUse, walk}

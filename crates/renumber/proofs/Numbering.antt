@@ -16,7 +16,7 @@ use Rattle.surface.specs.Triangle.{triangles, corners}
 use Rattle.surface.specs.Euler.{Below}
 use Rattle.surface.proofs.Euler.{use-has}
 use Rattle.surface.proofs.Flat.{corners-triangles}
-use Rattle.places.specs.Place.{at}
+use Rattle.halfedges.specs.Place.{at}
 use Rattle.rounds.specs.Renumber.{index, meet, met, firstUse, walk}
 use Rattle.rounds.proofs.FirstUse.{In, index-append, index-new, met-adds, has-corner, first-fewer}
 use Rattle.rounds.proofs.Loops.{met-more, walk-more, meet-old, meet-new, not-met}

@@ -7,7 +7,7 @@ use lib.Dec.{eqb}
 use lib.ListN.{length, take, drop, set}
 use Rattle.surface.specs.Triangle as Triangle
 use Rattle.surface.specs.Triangle.{triangles}
-use Rattle.places.specs.Place.{at}
+use Rattle.halfedges.specs.Place.{at}
 use Rattle.rounds.specs.Pass.{retain}
 use Rattle.rounds.specs.Renumber.{renumbered}
 

@@ -5,7 +5,7 @@ use mathlib.Core.Logic.{_⊎_}
 use mathlib.Core.List.{List, []}
 use lib.ListN.{length, getD, take, set}
 use lib.Ieee.{Float, nan}
-use Rattle.places.specs.Place.{at}
+use Rattle.halfedges.specs.Place.{at}
 use Rattle.rounds.specs.Renumber.{met, walk}
 use Rattle.oracle.specs.Points.{gathered}
 use Rattle.scores.specs.Words.{floatAt, Kept, Held}

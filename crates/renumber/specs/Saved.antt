@@ -4,7 +4,7 @@ use mathlib.Core.Path.{_≡_}
 use mathlib.Core.List.{List}
 use lib.ListN.{getD}
 use lib.Ieee.{Float, nan}
-use Rattle.places.specs.Place.{at}
+use Rattle.halfedges.specs.Place.{at}
 use Rattle.scores.specs.Words.{Kept}
 
 -- the first n floats stand in the words from `saved` on, and the other words are as they were

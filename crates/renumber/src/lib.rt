@@ -1,11 +1,11 @@
 // After the collapses of a round: the triangles that stay move forward, and the corners get new numbers in the order of their first use, each with its point.
-use places::wide;
+use halfedges::wide;
 use scores::get_float;
 use scores::put_float;
 ghost use mathlib.Core.Path.{_≡_};
 ghost use Prim.Native.Nat.{_+_, _*_, _<_, _≤_};
 ghost use lib.ListN.{length, getD, set};
-ghost use Rattle.places.specs.Place.{at};
+ghost use Rattle.halfedges.specs.Place.{at};
 ghost use Rattle.field.specs.Number.{plusZero};
 ghost use Rattle.renumber.specs.Dropped.{Movable, Moved, Droppable, Dropped};
 ghost use Rattle.renumber.specs.Blank.{blank};

@@ -6,7 +6,7 @@ use mathlib.Core.Bool.{Bool, true, false, cond}
 use mathlib.Core.List.{List, [], _∷_, map}
 use lib.Dec.{leb}
 use lib.ListN.{length}
-use Rattle.places.specs.Place.{at}
+use Rattle.halfedges.specs.Place.{at}
 use Rattle.sorting.specs.Stable.{insert, sorted}
 use Rattle.sorting.proofs.Facts.{All, sorted-all}
 use Rattle.oracle.specs.Candidates.{chosen, insertBy, sortBy}

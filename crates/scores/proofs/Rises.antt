@@ -9,7 +9,7 @@ use lib.ListN.{length}
 use borrow.Author.Tests.{lt-ltb, le-ltb}
 use Rattle.surface.specs.Triangle.{triangles}
 use Rattle.surface.specs.Closed.{Closed, sides}
-use Rattle.places.specs.Place.{nx, at}
+use Rattle.halfedges.specs.Place.{nx, at}
 use Rattle.sides.specs.Side.{find, gate, add, row, rows, sorted}
 use Rattle.sides.specs.Edge.{find-is, find-some}
 use Rattle.chains.specs.Flat.{runs-side, side-runs}

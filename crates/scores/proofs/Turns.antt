@@ -22,9 +22,9 @@ use Rattle.surface.specs.Triangle.{Tri, tri, triangles}
 use Rattle.surface.specs.Closed.{one}
 use Rattle.surface.specs.Edit.{place}
 use Rattle.surface.proofs.Flat.{place-triangles}
-use Rattle.places.specs.Place.{nx, at}
-use Rattle.places.proofs.Fine.{nx-below}
-use Rattle.places.proofs.Turns.{same-or}
+use Rattle.halfedges.specs.Place.{nx, at}
+use Rattle.halfedges.proofs.Fine.{nx-below}
+use Rattle.halfedges.proofs.Turns.{same-or}
 use Rattle.sorting.specs.Stable.{part}
 use Rattle.sorting.proofs.Keys.{key-there}
 use Rattle.sorting.proofs.Parts.{part-cons, part-none}

@@ -15,7 +15,7 @@ use Rattle.surface.specs.Edit.{has, place}
 use Rattle.surface.proofs.Bools.{both, join}
 use Rattle.surface.proofs.Reading.{Reads, times-hits, reads-hits}
 use Rattle.surface.proofs.Hinged.{runs-no, has-either}
-use Rattle.places.specs.Place.{nx, pv, at}
+use Rattle.halfedges.specs.Place.{nx, pv, at}
 use Rattle.sides.specs.Side.{Twin, Met}
 use Rattle.sides.specs.Met.{met-of}
 use Rattle.chains.specs.Common.{same-test}

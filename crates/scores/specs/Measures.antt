@@ -10,7 +10,7 @@ use lib.Ieee.{Float}
 use Rattle.field.specs.Number.{plusZero}
 use Rattle.surface.specs.Triangle.{triangles}
 use Rattle.surface.specs.Edit.{place}
-use Rattle.places.specs.Place.{nx, at}
+use Rattle.halfedges.specs.Place.{nx, at}
 use Rattle.sorting.specs.Stable.{part, keysIn}
 use Rattle.history.specs.History.{Pair}
 use Rattle.rounds.specs.Choices.{Side}

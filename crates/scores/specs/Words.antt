@@ -11,7 +11,7 @@ use lib.ListN.{length, set, length-set}
 use lib.Seq.{getD-set-same, getD-set-other}
 use lib.Ieee.{Float, nan, inf, fin, binary64, div, toBits, ofBits, fits, isNan, nanBits}
 use lib.Ieee.Bits.{ofBits-toBits, nanBits-is}
-use Rattle.places.specs.Place.{at}
+use Rattle.halfedges.specs.Place.{at}
 
 abbrev pub high : Float → ℕ
 high x = toBits binary64 x / 4294967296

@@ -1,15 +1,15 @@
 // The float part of a round: floats kept in work words, the shapes of the triangles of a list, the squared lengths of its sides and their mean, and the sides that a round tries to collapse.
 use field::shape;
 use float::Point;
-use places::after;
-use places::wide;
+use halfedges::after;
+use halfedges::wide;
 ghost use mathlib.Core.Path.{_≡_};
 ghost use mathlib.Core.Bool.{true, false};
 ghost use Prim.Native.Nat.{ℕ, _+_, _*_, _/_, _<_, _≤_};
 ghost use lib.ListN.{length};
 ghost use Rattle.surface.specs.Triangle.{tri};
 ghost use Rattle.surface.specs.Closed.{one};
-ghost use Rattle.places.specs.Place.{nx, at};
+ghost use Rattle.halfedges.specs.Place.{nx, at};
 ghost use Rattle.oracle.specs.Scene as Scene;
 ghost use Rattle.oracle.specs.Scene.{scene, pointAt};
 ghost use Rattle.scores.specs.Words.{putAt, floatAt, Held};

@@ -9,8 +9,8 @@ use lib.Dec.{eqb, ltb}
 use lib.ListN.{length, length-append}
 use borrow.Author.Tests.{eqb-true, eq-eqb, ltb-true, ltb-false}
 use Rattle.surface.specs.Closed.{one}
-use Rattle.places.specs.Place.{nx, at, lastIf}
-use Rattle.places.proofs.Turns.{same-or}
+use Rattle.halfedges.specs.Place.{nx, at, lastIf}
+use Rattle.halfedges.proofs.Turns.{same-or}
 use Rattle.sides.specs.Side.{Met, find, gate, edge, add, row, rows, sorted}
 use Rattle.sides.specs.Edge.{find-is, find-some, and-true, true-and}
 

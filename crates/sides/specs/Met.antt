@@ -9,10 +9,10 @@ use lib.ListN.{length}
 use borrow.Author.Tests.{ltb-true, ltb-false}
 use Rattle.surface.specs.Triangle.{triangles}
 use Rattle.surface.specs.Closed.{Step, Closed}
-use Rattle.places.specs.Place.{nx, at, st}
-use Rattle.places.proofs.Steps.{pl, pl-in, pl-place, in-froms}
-use Rattle.places.proofs.Fine.{Fine, fine-of, fine-once, from-of, sides-pl}
-use Rattle.places.proofs.Whole.{closed-rounded, closed-differing}
+use Rattle.halfedges.specs.Place.{nx, at, st}
+use Rattle.halfedges.proofs.Steps.{pl, pl-in, pl-place, in-froms}
+use Rattle.halfedges.proofs.Fine.{Fine, fine-of, fine-once, from-of, sides-pl}
+use Rattle.halfedges.proofs.Whole.{closed-rounded, closed-differing}
 use Rattle.sides.specs.Side.{Twin, Met}
 
 record Back (c : List ℕ) (k : ℕ) : Type 0 where

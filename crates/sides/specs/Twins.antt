@@ -5,8 +5,8 @@ use mathlib.Core.Path.{_≡_, refl, sym, ap, _∙_}
 use mathlib.Core.Logic.{_⊎_, inl, inr, ⊎-elim}
 use mathlib.Core.List.{List}
 use lib.ListN.{length}
-use Rattle.places.specs.Place.{nx, at}
-use Rattle.places.proofs.Fine.{apart-cases}
+use Rattle.halfedges.specs.Place.{nx, at}
+use Rattle.halfedges.proofs.Fine.{apart-cases}
 use Rattle.sides.specs.Side.{Twin, Met, find}
 use Rattle.sides.specs.Edge.{find-is, find-some}
 use Rattle.sides.specs.Order.{Upward}

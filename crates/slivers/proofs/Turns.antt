@@ -20,8 +20,8 @@ use Rattle.surface.proofs.Flat.{place-triangles}
 use Rattle.history.specs.History.{covered}
 use Rattle.rounds.specs.Pass.{State}
 use Rattle.rounds.specs.Choices.{collapseStep}
-use Rattle.places.specs.Place.{nx, pv, at, uses}
-use Rattle.places.proofs.Whole.{closed-differing}
+use Rattle.halfedges.specs.Place.{nx, pv, at, uses}
+use Rattle.halfedges.proofs.Whole.{closed-differing}
 use Rattle.sides.specs.Side.{Twin}
 use Rattle.chains.specs.Chain.{from, walk, walk-here, spot, Onward, onward-start, onward-next, onward-less, Upto, upto-start, upto-next}
 use Rattle.chains.specs.Common.{lone}

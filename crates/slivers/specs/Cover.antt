@@ -12,8 +12,8 @@ use Rattle.surface.proofs.Bools.{true-false}
 use Rattle.surface.specs.Label.{carries}
 use Rattle.history.specs.History.{Pair, covered}
 use Rattle.rounds.proofs.Loops.{covered-iff}
-use Rattle.places.specs.Place.{at}
-use Rattle.places.proofs.Turns.{same-or}
+use Rattle.halfedges.specs.Place.{at}
+use Rattle.halfedges.proofs.Turns.{same-or}
 use Rattle.chains.specs.Common.{same-test}
 use Rattle.chains.specs.LabelMarks.{Labelled, Carried, Holder, held-by}
 

@@ -21,7 +21,7 @@ use Rattle.history.specs.History.{Pair, covered}
 use Rattle.rounds.specs.Pass.{State, Allowed}
 use Rattle.rounds.specs.Choices.{Side, Decision, common, mayCollapse, collapseStep}
 use Rattle.rounds.proofs.Exact.{may-collapse-iff, linked-by-count}
-use Rattle.places.specs.Place.{nx, pv, at, uses}
+use Rattle.halfedges.specs.Place.{nx, pv, at, uses}
 use Rattle.sides.specs.Side.{Twin}
 use Rattle.sides.specs.Twins.{twin-back}
 use Rattle.chains.specs.Common.{same-test, Alone, common-alone, alone-common, lone, lone-twin}

@@ -13,7 +13,7 @@ use Rattle.surface.specs.Closed.{one, Closed}
 use Rattle.history.specs.History.{Pair}
 use Rattle.rounds.specs.Pass.{State}
 use Rattle.rounds.specs.Choices.{Side}
-use Rattle.places.specs.Place.{nx, pv, at, uses}
+use Rattle.halfedges.specs.Place.{nx, pv, at, uses}
 use Rattle.sides.specs.Side.{Twin}
 use Rattle.chains.specs.Chain.{walk, Chained}
 use Rattle.chains.specs.Common.{lone}

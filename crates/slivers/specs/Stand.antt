@@ -22,8 +22,8 @@ use Rattle.rounds.specs.Pass.{near, marked, moved, State}
 use Rattle.rounds.specs.Renumber.{renumber, renumbered}
 use Rattle.rounds.specs.Choices.{collapseStep}
 use Rattle.rounds.proofs.Elements.{moved-place, moved-length, marked-place, marked-length}
-use Rattle.places.specs.Place.{nx, pv, at}
-use Rattle.places.proofs.Turns.{same-or}
+use Rattle.halfedges.specs.Place.{nx, pv, at}
+use Rattle.halfedges.proofs.Turns.{same-or}
 use Rattle.sides.specs.Side.{Twin, Met}
 use Rattle.sides.specs.Met.{met-of}
 use Rattle.chains.specs.Chain.{walk}

@@ -15,8 +15,8 @@ use Rattle.surface.proofs.Bools.{both, join, true-false}
 use Rattle.surface.proofs.Bridge.{reads-names, reads-name}
 use Rattle.rounds.specs.Pass.{near}
 use Rattle.rounds.proofs.Elements.{near-none, near-place}
-use Rattle.places.specs.Place.{nx, pv, at}
-use Rattle.places.proofs.Turns.{same-or}
+use Rattle.halfedges.specs.Place.{nx, pv, at}
+use Rattle.halfedges.proofs.Turns.{same-or}
 use Rattle.chains.specs.Chain.{walk, walk-here, walk-on, walk-none}
 use Rattle.chains.specs.Common.{same-test}
 use Rattle.chains.specs.Flat.{triangle-low, place-reads, reads-spot}

@@ -16,9 +16,9 @@ use Rattle.surface.specs.Triangle.{Tri, tri, triangles, names}
 use Rattle.surface.specs.Edit.{place, renamed}
 use Rattle.surface.proofs.Bools.{both, join, true-false}
 use Rattle.surface.proofs.Flat.{place-triangles}
-use Rattle.places.specs.Place.{nx, pv, at}
-use Rattle.places.proofs.Turns.{same-or}
-use Rattle.places.proofs.Whole.{Differing}
+use Rattle.halfedges.specs.Place.{nx, pv, at}
+use Rattle.halfedges.proofs.Turns.{same-or}
+use Rattle.halfedges.proofs.Whole.{Differing}
 use Rattle.chains.specs.Chain.{walk, walk-here, walk-on, walk-none}
 use Rattle.chains.specs.Common.{same-test}
 use Rattle.chains.specs.Flat.{thirds-length, triangle-low, place-reads, reads-spot}

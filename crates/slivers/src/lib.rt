@@ -13,7 +13,7 @@ ghost use Prim.Native.Nat.{ℕ, _+_, _*_, _/_, _%_, _<_, _≤_};
 ghost use lib.ListN.{length, getD};
 ghost use Rattle.surface.specs.Triangle.{triangles};
 ghost use Rattle.surface.specs.Edit as Edit;
-ghost use Rattle.places.specs.Place.{at, nx};
+ghost use Rattle.halfedges.specs.Place.{at, nx};
 ghost use Rattle.chains.specs.Chain.{walk};
 ghost use Rattle.chains.specs.Marks.{Lists, Walking};
 ghost use Rattle.scores.specs.Measures.{sideAt};

@@ -1,6 +1,6 @@
 // The side that an entry names: its two triangles, the tests around it that give the entry's verdict word, and the words of its record.
 use closing::clear;
-use places::wide;
+use halfedges::wide;
 use surface::triangle_at;
 ghost use mathlib.Core.Path.{_≡_};
 ghost use mathlib.Core.List.{List, _∷_, []};

@@ -1,11 +1,11 @@
 // Words and corners read and written one at a time: each asks only that its index is there.
-use places::after;
-use places::before;
-use places::wide;
+use halfedges::after;
+use halfedges::before;
+use halfedges::wide;
 ghost use mathlib.Core.Path.{_≡_};
 ghost use Prim.Native.Nat.{_%_, _<_, _≤_};
 ghost use lib.ListN.{length, set};
-ghost use Rattle.places.specs.Place.{at, nx, pv};
+ghost use Rattle.halfedges.specs.Place.{at, nx, pv};
 
 pub fn word(work: &[u32], i: usize) -> usize
     requires { ⌜ i < length (now work) ⌝ }

@@ -1,11 +1,11 @@
--- `closing::closed_surface` meets its contract (`Rattle.places.proofs.Whole`).
+-- `closing::closed_surface` meets its contract (`Rattle.halfedges.proofs.Whole`).
 use Prim.Native.Nat.{ℕ, _+_, _*_, _/_}
 use mathlib.Core.Path.{_≡_, ap, _∙_}
 use mathlib.Core.List.{_++_}
 use native.Mathlib.Omega.{arith}
 use lib.ListN.{length, drop, replicate}
 use denote.Ref.{now}
-use Rattle.places.proofs.Whole.{closed-of, closed-differing, closed-rounded, closed-enough}
+use Rattle.halfedges.proofs.Whole.{closed-of, closed-differing, closed-rounded, closed-enough}
 use Rattle.closing.specs.Closing.{needed}
 use Rattle.closing.proofs.Numbers.{yes′}
 use borrow.Author.Needs.{needs}

@@ -5,9 +5,9 @@ use mathlib.Core.List.{List}
 use native.Mathlib.Omega.{arith}
 use lib.ListN.{length}
 use denote.Ref.{now}
-use Rattle.places.specs.Place.{nx, at, last, uses}
-use Rattle.places.proofs.Fine.{fine-once, nx-below}
-use Rattle.places.proofs.Chains.{last-le, last-names, uses-last, uses-zero, fine-empty, inside-of, fine-walked, walked-fine}
+use Rattle.halfedges.specs.Place.{nx, at, last, uses}
+use Rattle.halfedges.proofs.Fine.{fine-once, nx-below}
+use Rattle.halfedges.proofs.Chains.{last-le, last-names, uses-last, uses-zero, fine-empty, inside-of, fine-walked, walked-fine}
 use Rattle.closing.proofs.Numbers.{no, yes′}
 use borrow.Author.Needs.{needs}
 use Rattle.closing.proofs.corner_ringed.Statement.{statement}

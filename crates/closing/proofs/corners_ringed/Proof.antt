@@ -6,8 +6,8 @@ use native.Mathlib.Numerals.{add-one}
 use lib.ListN.{length, drop}
 use denote.Ref.{now}
 use borrow.Author.Count.{below-more}
-use Rattle.places.proofs.Fine.{Fine}
-use Rattle.places.proofs.Whole.{Enough}
+use Rattle.halfedges.proofs.Fine.{Fine}
+use Rattle.halfedges.proofs.Whole.{Enough}
 use Rattle.closing.specs.Stages.{Ready}
 use Rattle.closing.proofs.Numbers.{no, yes′}
 use Rattle.closing.proofs.corners_ringed.Statement.{statement}

@@ -5,8 +5,8 @@ use native.Mathlib.Omega.{arith}
 use native.Mathlib.Numerals.{add-one}
 use lib.ListN.{length, drop, length-set}
 use denote.Ref.{now}
-use Rattle.places.specs.Place.{at, Sized, Linked}
-use Rattle.places.proofs.Turns.{sized-other, link-turn, at-turned, link-far, link-none}
+use Rattle.halfedges.specs.Place.{at, Sized, Linked}
+use Rattle.halfedges.proofs.Turns.{sized-other, link-turn, at-turned, link-far, link-none}
 use Rattle.closing.proofs.link_corners.Statement.{statement}
 use Rattle.closing.proofs.link_corners.Tie as tie
 

@@ -6,10 +6,10 @@ use native.Mathlib.Omega.{arith}
 use native.Mathlib.Numerals.{add-one}
 use lib.ListN.{length, drop, set, length-set}
 use denote.Ref.{now}
-use Rattle.places.specs.Place.{nx, pv, at, last, uses, Sized, Linked, stamp, Noted}
-use Rattle.places.proofs.Fine.{nx-below, pv-below}
-use Rattle.places.proofs.Chains.{last-le, last-names, uses-last, uses-suc, uses-zero}
-use Rattle.places.proofs.Turns.{sized-other, mark-linked, mark-noted, mark-next, mark-far, mark-clash, mark-start, uses-le}
+use Rattle.halfedges.specs.Place.{nx, pv, at, last, uses, Sized, Linked, stamp, Noted}
+use Rattle.halfedges.proofs.Fine.{nx-below, pv-below}
+use Rattle.halfedges.proofs.Chains.{last-le, last-names, uses-last, uses-suc, uses-zero}
+use Rattle.halfedges.proofs.Turns.{sized-other, mark-linked, mark-noted, mark-next, mark-far, mark-clash, mark-start, uses-le}
 use Rattle.closing.proofs.note_steps.Statement.{statement}
 use Rattle.closing.proofs.note_steps.Tie as tie
 

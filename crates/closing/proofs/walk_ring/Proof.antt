@@ -3,8 +3,8 @@ use Prim.Native.Nat.{ℕ, suc, _-_, _<_}
 use mathlib.Core.Path.{_≡_, refl, sym, _∙_}
 use native.Mathlib.Omega.{arith}
 use denote.Ref.{now}
-use Rattle.places.specs.Place.{hopTo, trip}
-use Rattle.places.proofs.Chains.{hop-below, trip-none, trip-stop, trip-home, trip-on}
+use Rattle.halfedges.specs.Place.{hopTo, trip}
+use Rattle.halfedges.proofs.Chains.{hop-below, trip-none, trip-stop, trip-home, trip-on}
 use Rattle.closing.proofs.walk_ring.Statement.{statement}
 use Rattle.closing.proofs.walk_ring.Tie as tie
 

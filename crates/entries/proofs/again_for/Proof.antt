@@ -4,7 +4,7 @@ use Rattle.entries.proofs.again_for.Statement.{statement}
 use Rattle.entries.proofs.again_for.Tie as tie
 use Rattle.entries.proofs.again_for.Reads as reads
 use Rattle.entries.proofs.again_for.Lts as lts
-use Rattle.places.proofs.wide.Reads as wide-reads
+use Rattle.halfedges.proofs.wide.Reads as wide-reads
 
 wide-requires : tie.Need-wide-requires
 wide-requires c κs = search needs

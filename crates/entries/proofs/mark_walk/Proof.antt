@@ -15,7 +15,7 @@ use Rattle.entries.proofs.mark_walk.Tie as tie
 use Rattle.entries.proofs.mark_walk.Reads as reads
 use Rattle.entries.proofs.mark_walk.Lts as lts
 use Rattle.closing.proofs.clear.Reads as clear-reads
-use Rattle.places.proofs.wide.Reads as wide-reads
+use Rattle.halfedges.proofs.wide.Reads as wide-reads
 use Rattle.verdicts.proofs.note_steps.Reads as note-steps-reads
 
 abbrev Inv-loop : tie.InvT-loop

@@ -14,7 +14,7 @@ use Rattle.entries.proofs.mark_walk.Reads as mark-walk-reads
 use Rattle.entries.proofs.pick.Reads as pick-reads
 use Rattle.entries.proofs.restore_all.Reads as restore-all-reads
 use Rattle.entries.proofs.second_of.Reads as second-of-reads
-use Rattle.places.proofs.wide.Reads as wide-reads
+use Rattle.halfedges.proofs.wide.Reads as wide-reads
 
 array-read-pick : tie.Need-array-read-pick
 array-read-pick c = search needs

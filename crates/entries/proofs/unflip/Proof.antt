@@ -6,7 +6,7 @@ use Rattle.entries.proofs.unflip.Reads as reads
 use Rattle.entries.proofs.unflip.Lts as lts
 use Rattle.entries.proofs.first_of.Reads as first-of-reads
 use Rattle.entries.proofs.second_of.Reads as second-of-reads
-use Rattle.places.proofs.wide.Reads as wide-reads
+use Rattle.halfedges.proofs.wide.Reads as wide-reads
 use Rattle.surface.proofs.put_triangle.Reads as put-triangle-reads
 
 array-read-wide : tie.Need-array-read-wide

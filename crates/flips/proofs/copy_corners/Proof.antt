@@ -3,7 +3,7 @@ use native.Mathlib.Omega.{arith}
 use Prim.Native.Nat.{_-_, _≤_}
 use mathlib.Core.Path.{_≡_, refl, _∙_}
 use lib.ListN.{length, length-set}
-use Rattle.places.specs.Place.{at}
+use Rattle.halfedges.specs.Place.{at}
 use Rattle.scores.specs.Measures.{Filled}
 use Rattle.scores.proofs.Turns.{filled-none, filled-more, filled-less}
 use Rattle.flips.proofs.copy_corners.Statement.{statement}

@@ -1,25 +1,38 @@
 -- `lanovishel::lanovishel_improve` meets its contract: it hands on what `improve` answers. Assumes nothing.
-use Prim.Native.Nat.{ℕ, _%_, _^_}
-use mathlib.Core.Path.{_≡_, refl, sym, ap, _∙_}
+use Prim.Native.Nat.{ℕ, _%_, _^_, _≤_}
+use native.Mathlib.Omega.{arith}
+use mathlib.Core.Path.{_≡_, refl, sym, ap, _∙_, subst}
 use mathlib.Core.List.{List, [], _∷_}
 use lib.Ieee.{Float}
 use Rattle.improving.specs.Improve.{Improving, numberOf, pointsOf, trianglesOf, flipsOf}
 use Rattle.improving.specs.declared.Outcome.{Outcome}
+use Rattle.improving.specs.declared.Outcome.the-variants.{Improved, Refused}
+use Rattle.improving.proofs.Demand3.{left-few}
 use Rattle.lanovishel.specs.Improve.{ImproveCall}
 use borrow.Author.Needs.{needs}
 use Rattle.lanovishel.proofs.lanovishel_improve.Statement.{statement}
 use Rattle.lanovishel.proofs.lanovishel_improve.Tie as tie
 
-handed : {points₀ : List Float} {corners₀ labels₀ work₀ : List ℕ} {coefficients : List Float} {powers : List ℕ} {levels bounds : List Float} {rounds : ℕ} {points₁ : List Float} {corners₁ labels₁ work₁ : List ℕ} {r : Outcome}
-    → Improving points₀ corners₀ labels₀ work₀ coefficients powers levels bounds rounds points₁ corners₁ labels₁ work₁ r → (v : Outcome) → r ≡ v
-    → (x y z : ℕ) → x ≡ pointsOf v % 2 ^ 32 → y ≡ trianglesOf v % 2 ^ 32 → z ≡ flipsOf v
-    → ImproveCall points₀ corners₀ labels₀ work₀ coefficients powers levels bounds rounds points₁ corners₁ labels₁ work₁ (x ∷ y ∷ z ∷ []) (numberOf v)
-handed {r = r} d v e x y z p q s = record {
-  outcome = r;
-  run = d;
-  is = ap numberOf (sym e);
-  answer = (λ i. p i ∷ q i ∷ s i ∷ []) ∙ ap (λ (o : Outcome). pointsOf o % 2 ^ 32 ∷ trianglesOf o % 2 ^ 32 ∷ flipsOf o ∷ []) (sym e);
-}
+-- the counts fit a word
+word : (n x : ℕ) → n ≤ 32768 → x ≡ n % 2 ^ 32 → x ≡ n
+word n x l e = e ∙ omega arith
+
+module _ {points₀ : List Float} {corners₀ labels₀ work₀ : List ℕ} {coefficients : List Float} {powers : List ℕ} {levels bounds : List Float} {rounds : ℕ} {points₁ : List Float} {corners₁ labels₁ work₁ : List ℕ} where
+  few : (r : Outcome) → Improving points₀ corners₀ labels₀ work₀ coefficients powers levels bounds rounds points₁ corners₁ labels₁ work₁ r → (pointsOf r ≤ 32768) × (trianglesOf r ≤ 32768)
+  few (Improved p t k) d = left-few d
+  few (Refused number) d = (omega arith, omega arith)
+
+  handed : {r : Outcome} → Improving points₀ corners₀ labels₀ work₀ coefficients powers levels bounds rounds points₁ corners₁ labels₁ work₁ r → (v : Outcome) → r ≡ v
+      → (x y z : ℕ) → x ≡ pointsOf v % 2 ^ 32 → y ≡ trianglesOf v % 2 ^ 32 → z ≡ flipsOf v
+      → ImproveCall points₀ corners₀ labels₀ work₀ coefficients powers levels bounds rounds points₁ corners₁ labels₁ work₁ (x ∷ y ∷ z ∷ []) (numberOf v)
+  handed {r} d v e x y z p q s =
+      let l = subst (λ (o : Outcome). (pointsOf o ≤ 32768) × (trianglesOf o ≤ 32768)) e (few r d) in
+      record {
+        outcome = r;
+        run = d;
+        is = ap numberOf (sym e);
+        answer = (λ i. word (pointsOf v) x (l .0) p i ∷ word (trianglesOf v) y (l .1) q i ∷ s i ∷ []) ∙ ap (λ (o : Outcome). pointsOf o ∷ trianglesOf o ∷ flipsOf o ∷ []) (sym e);
+      }
 
 improve-requires : tie.Need-improve-requires
 improve-requires c κs = search needs

@@ -6,7 +6,7 @@ use mathlib.Core.List.{List}
 use native.Mathlib.Omega.{arith}
 use lib.ListN.{length}
 use denote.Ref.{now}
-use Rattle.places.specs.Place.{at}
+use Rattle.halfedges.specs.Place.{at}
 use Rattle.chains.specs.Chain.{spot}
 use Rattle.chains.specs.Marks.{Walking, below-next}
 use Rattle.chains.specs.SideMarks.{Strange}

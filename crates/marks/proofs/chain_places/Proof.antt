@@ -5,7 +5,7 @@ use mathlib.Core.List.{List}
 use native.Mathlib.Omega.{arith}
 use lib.ListN.{length, drop, set, length-set}
 use denote.Ref.{now}
-use Rattle.places.specs.Place.{at}
+use Rattle.halfedges.specs.Place.{at}
 use Rattle.chains.specs.Marks.{Lists, Chaining, chain-first, chain-last}
 use Rattle.marks.proofs.Turns.{zero-at, from-most, chain-turn′}
 use Rattle.marks.proofs.chain_places.Statement.{statement}

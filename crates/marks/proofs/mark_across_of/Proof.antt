@@ -7,7 +7,7 @@ use mir.Val.{boolByte}
 use lib.Dec.{eqb}
 use lib.ListN.{length}
 use denote.Ref.{now}
-use Rattle.places.specs.Place.{at}
+use Rattle.halfedges.specs.Place.{at}
 use Rattle.chains.specs.Chain.{spot}
 use Rattle.chains.specs.Marks.{Marking, below-last}
 use Rattle.chains.specs.AcrossMarks.{AcrossOf}

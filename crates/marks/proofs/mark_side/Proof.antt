@@ -6,7 +6,7 @@ use native.Mathlib.Omega.{arith}
 use mir.Val.{boolByte}
 use lib.ListN.{length}
 use denote.Ref.{now}
-use Rattle.places.specs.Place.{at}
+use Rattle.halfedges.specs.Place.{at}
 use Rattle.chains.specs.Marks.{Marking, walking-of}
 use Rattle.marks.proofs.Turns.{corner-low, other-low, place-low, side-skipped, side-done, bit-low}
 use borrow.Author.Needs.{needs}

@@ -5,7 +5,7 @@ use mathlib.Core.List.{List}
 use native.Mathlib.Omega.{arith}
 use lib.ListN.{length}
 use denote.Ref.{now}
-use Rattle.places.specs.Place.{at}
+use Rattle.halfedges.specs.Place.{at}
 use Rattle.chains.specs.Marks.{Marking, marking-kept, walking-of, Cleared}
 use Rattle.chains.specs.SideMarks.{MarkedBelow, below-first, below-turn}
 use Rattle.marks.proofs.Turns.{turn-kept, turn-stamping, turn-marking, turn-stamped, sides-end}

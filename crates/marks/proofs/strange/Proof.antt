@@ -6,7 +6,7 @@ use mathlib.Core.Logic.{inl, inr}
 use mathlib.Core.Bool.{Bool, true, false, true≢false, false≢true}
 use Prim.Native.Nat.{ℕ, _+_}
 use borrow.Author.Tests.{eqb-true, eqb-false, not-true, not-false}
-use Rattle.places.specs.Place.{at}
+use Rattle.halfedges.specs.Place.{at}
 use borrow.Author.Needs.{needs}
 use Rattle.marks.proofs.strange.Statement.{statement}
 use Rattle.marks.proofs.strange.Tie as tie

@@ -7,7 +7,7 @@ use lib.ListN.{length, drop, set, length-set}
 use lib.Seq.{drop-set-lt}
 use borrow.Author.Needs.{needs}
 use denote.Ref.{now}
-use Rattle.places.specs.Place.{at}
+use Rattle.halfedges.specs.Place.{at}
 use Rattle.questions.specs.Stages.{slot, opp}
 use Rattle.questions.proofs.Labels.{Clash, some-opposed, none-opposed}
 use Rattle.questions.proofs.Marks.{Marks, marks-none, turn-stops, turn-on}

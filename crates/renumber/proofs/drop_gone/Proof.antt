@@ -4,7 +4,7 @@ use native.Mathlib.Omega.{arith}
 use lib.ListN.{length}
 use lib.Dec.{eqb}
 use Prim.Native.Nat.{_+_}
-use Rattle.places.specs.Place.{at}
+use Rattle.halfedges.specs.Place.{at}
 use Rattle.renumber.proofs.Dropping.{Dropping, drop-starts, movable, drop-on, drop-ends, byte-small}
 use Rattle.renumber.proofs.drop_gone.Statement.{statement}
 use Rattle.renumber.proofs.drop_gone.Tie as tie

@@ -2,7 +2,7 @@
 use native.Mathlib.Omega.{arith}
 use Prim.Native.Nat.{ℕ, _+_, _-_}
 use mathlib.Core.Path.{_∙_}
-use Rattle.places.specs.Place.{at}
+use Rattle.halfedges.specs.Place.{at}
 use Rattle.scores.specs.Measures.{picks}
 use Rattle.scores.proofs.Turns.{Picking, pick-starts, pick-place, pick-turn, pick-ends, picks-same, marked-in, byte-small}
 use Rattle.scores.proofs.pick_candidates.Statement.{statement}

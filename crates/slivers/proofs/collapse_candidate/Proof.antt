@@ -6,7 +6,7 @@ use native.Mathlib.Omega.{arith}
 use borrow.Author.Tests.{not-true, not-false}
 use lib.ListN.{length}
 use denote.Ref.{now}
-use Rattle.places.specs.Place.{at, nx}
+use Rattle.halfedges.specs.Place.{at, nx}
 use Rattle.chains.specs.Marks.{below-next}
 use Rattle.oracle.specs.Scene.{scene}
 use Rattle.slivers.specs.Decide.{mayAt}

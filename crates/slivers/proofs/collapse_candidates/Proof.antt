@@ -5,7 +5,7 @@ use mathlib.Core.List.{List}
 use native.Mathlib.Omega.{arith}
 use lib.ListN.{length}
 use denote.Ref.{now}
-use Rattle.places.specs.Place.{at}
+use Rattle.halfedges.specs.Place.{at}
 use Rattle.oracle.specs.Scene.{scene}
 use Rattle.slivers.specs.Ready.{Ready, ready-kept, Passing}
 use Rattle.slivers.proofs.Turns.{passing-first, passing-turn}

@@ -5,7 +5,7 @@ use mathlib.Core.List.{List}
 use native.Mathlib.Omega.{arith}
 use lib.ListN.{length}
 use denote.Ref.{now}
-use Rattle.places.specs.Place.{at}
+use Rattle.halfedges.specs.Place.{at}
 use Rattle.chains.specs.Chain.{walk, spot}
 use Rattle.chains.specs.Marks.{Walking}
 use Rattle.slivers.specs.Touch.{touchAt}

@@ -8,7 +8,7 @@ use lib.ListN.{length}
 use lib.Ieee.{Float}
 use denote.Ref.{now}
 use borrow.Author.Tests.{not-true, not-false}
-use Rattle.places.specs.Place.{at}
+use Rattle.halfedges.specs.Place.{at}
 use Rattle.chains.specs.Chain.{spot}
 use Rattle.oracle.specs.Scene.{Scene, scene}
 use Rattle.slivers.specs.Ready.{Tried}

@@ -4,7 +4,7 @@ use Rattle.verdicts.proofs.apart_at.Statement.{statement}
 use Rattle.verdicts.proofs.apart_at.Tie as tie
 use Rattle.verdicts.proofs.apart_at.Reads as reads
 use Rattle.verdicts.proofs.apart_at.Lts as lts
-use Rattle.places.proofs.wide.Reads as wide-reads
+use Rattle.halfedges.proofs.wide.Reads as wide-reads
 
 wide-requires : tie.Need-wide-requires
 wide-requires c κs = search needs

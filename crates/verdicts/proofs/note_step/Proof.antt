@@ -4,7 +4,7 @@ use Rattle.verdicts.proofs.note_step.Statement.{statement}
 use Rattle.verdicts.proofs.note_step.Tie as tie
 use Rattle.verdicts.proofs.note_step.Reads as reads
 use Rattle.verdicts.proofs.note_step.Lts as lts
-use Rattle.places.proofs.wide.Reads as wide-reads
+use Rattle.halfedges.proofs.wide.Reads as wide-reads
 
 array-read-wide : tie.Need-array-read-wide
 array-read-wide c = search needs

@@ -1,7 +1,7 @@
 -- `words::behind` meets its contract.
 use mathlib.Core.Path.{ap, _∙_}
 use denote.Ref.{now}
-use Rattle.places.specs.Place.{at}
+use Rattle.halfedges.specs.Place.{at}
 use borrow.Author.Needs.{needs}
 use Rattle.words.proofs.behind.Statement.{statement}
 use Rattle.words.proofs.behind.Tie as tie

@@ -9,9 +9,9 @@ use lib.Dec.{eqb}
 use lib.ListN.{length, set, drop, length-set}
 use lib.Seq.{getD-set-same, getD-set-other, drop-set-lt}
 use borrow.Author.Tests.{eqb-true, eqb-false}
-use Rattle.places.specs.Place.{nx, pv, at, last, uses, plus, Once, Sized, Linked, stamp, note, Stamped, Noted}
-use Rattle.places.proofs.Fine.{nx-below, apart-cases}
-use Rattle.places.proofs.Chains.{last-same, last-other, last-zero, last-skip, last-le}
+use Rattle.halfedges.specs.Place.{nx, pv, at, last, uses, plus, Once, Sized, Linked, stamp, note, Stamped, Noted}
+use Rattle.halfedges.proofs.Fine.{nx-below, apart-cases}
+use Rattle.halfedges.proofs.Chains.{last-same, last-other, last-zero, last-skip, last-le}
 
 pub same-or : (i j : ℕ) → (i ≡ j) ⊎ (i ≡ j → ⊥)
 same-or i j = go (eqb i j) refl

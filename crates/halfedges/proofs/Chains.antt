@@ -7,10 +7,10 @@ use mathlib.Core.List.{List}
 use lib.Dec.{eqb}
 use lib.ListN.{length}
 use borrow.Author.Tests.{eqb-true, eqb-false, eq-eqb, ne-eqb}
-use Rattle.places.specs.Place.{nx, pv, at, last, lastIf, uses, plus, Sized, stamp, note, Noted, Inside, follower, hopTo, landed, trip}
-use Rattle.places.proofs.Steps.{pl, length-pl}
-use Rattle.places.proofs.Rings.{Hops, round-of, trip-of}
-use Rattle.places.proofs.Fine.{Fine, pv-below, fine-unused}
+use Rattle.halfedges.specs.Place.{nx, pv, at, last, lastIf, uses, plus, Sized, stamp, note, Noted, Inside, follower, hopTo, landed, trip}
+use Rattle.halfedges.proofs.Steps.{pl, length-pl}
+use Rattle.halfedges.proofs.Rings.{Hops, round-of, trip-of}
+use Rattle.halfedges.proofs.Fine.{Fine, pv-below, fine-unused}
 
 no : {A : Type 0} → false ≡ true → A
 no e = let z : _≡_ {A = ℕ} 0 1 = cc in absurd (omega arith)

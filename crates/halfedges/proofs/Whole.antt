@@ -10,10 +10,10 @@ use lib.ListN.{length, getD}
 use borrow.Author.Tests.{eqb-true, eqb-false, eq-eqb}
 use Rattle.surface.specs.Triangle.{Tri, tri, triangles, names}
 use Rattle.surface.specs.Closed.{Step, one, Leads, Ring, Differ, SameCorners, Closed, Manifold}
-use Rattle.places.specs.Place.{nx, pv, at, st, uses}
-use Rattle.places.proofs.Steps.{starts, froms, In, in-froms, pl, pl-in, pl-place, length-pl}
-use Rattle.places.proofs.Perms.{cut, leads-cut, leads-join, in-perm, tally-perm, length-perm, tally-append, length-turn, in-left, in-right, in-either, none-from}
-use Rattle.places.proofs.Fine.{Fine, fine-of, fine-once, nx-below, pv-below, apart-cases, in-length}
+use Rattle.halfedges.specs.Place.{nx, pv, at, st, uses}
+use Rattle.halfedges.proofs.Steps.{starts, froms, In, in-froms, pl, pl-in, pl-place, length-pl}
+use Rattle.halfedges.proofs.Perms.{cut, leads-cut, leads-join, in-perm, tally-perm, length-perm, tally-append, length-turn, in-left, in-right, in-either, none-from}
+use Rattle.halfedges.proofs.Fine.{Fine, fine-of, fine-once, nx-below, pv-below, apart-cases, in-length}
 
 -- rule (a), by places, and no ring shorter than m
 abbrev pub Differing : List ℕ → Type 0

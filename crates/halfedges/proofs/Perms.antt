@@ -9,7 +9,7 @@ use lib.Dec.{eqb}
 use lib.ListN.{length}
 use borrow.Author.Tests.{eqb-true, eq-eqb, ne-eqb}
 use Rattle.surface.specs.Closed.{Step, step, one, Leads}
-use Rattle.places.proofs.Steps.{tally, starts, froms, tos, In}
+use Rattle.halfedges.proofs.Steps.{tally, starts, froms, tos, In}
 
 -- a sum over the steps, and with it their number, stays
 pub tally-perm : (f : Step → ℕ) {a b : List Step} → List·Permᴰ a b → tally f a ≡ tally f b

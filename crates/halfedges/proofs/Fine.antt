@@ -10,9 +10,9 @@ use lib.ListN.{length}
 use borrow.Author.Tests.{eqb-true, eqb-false, eq-eqb, ltb-true, ltb-false}
 use Rattle.surface.specs.Triangle.{Tri, triangles}
 use Rattle.surface.specs.Closed.{Step, step, one, around, sides, Ring, InUse, Paired, Manifold}
-use Rattle.places.specs.Place.{nx, pv, at, st, Once}
-use Rattle.places.proofs.Steps.{starts, ends, froms, tos, In, Place, pl, pl-in, pl-place, pl-two, sides-froms, around-places}
-use Rattle.places.proofs.Perms.{leads-even, tally-perm}
+use Rattle.halfedges.specs.Place.{nx, pv, at, st, Once}
+use Rattle.halfedges.proofs.Steps.{starts, ends, froms, tos, In, Place, pl, pl-in, pl-place, pl-two, sides-froms, around-places}
+use Rattle.halfedges.proofs.Perms.{leads-even, tally-perm}
 
 -- the steps of v's places, no two of which leave one corner, are one ring
 pub record Fine (c : List ℕ) (v : ℕ) : Type 0 where

@@ -9,9 +9,9 @@ use lib.Dec.{eqb}
 use lib.ListN.{length}
 use borrow.Author.Tests.{eqb-true, eq-eqb, ne-eqb}
 use Rattle.surface.specs.Closed.{Step, step, one, Leads, Ring}
-use Rattle.places.specs.Place.{nx, pv, at, st, landed, trip, Steps}
-use Rattle.places.proofs.Steps.{starts, froms, In, Place, pl, pl-in, pl-place}
-use Rattle.places.proofs.Perms.{Apart, perm-of, cut, leads-cut, leads-join, in-perm, tally-perm, length-perm, tally-append, length-turn, in-left, in-right, in-either, none-from, apart-froms}
+use Rattle.halfedges.specs.Place.{nx, pv, at, st, landed, trip, Steps}
+use Rattle.halfedges.proofs.Steps.{starts, froms, In, Place, pl, pl-in, pl-place}
+use Rattle.halfedges.proofs.Perms.{Apart, perm-of, cut, leads-cut, leads-join, in-perm, tally-perm, length-perm, tally-append, length-turn, in-left, in-right, in-either, none-from, apart-froms}
 
 no : {A : Type 0} → false ≡ true → A
 no e = let z : _≡_ {A = ℕ} 0 1 = cc in absurd (omega arith)
