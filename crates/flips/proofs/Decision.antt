@@ -41,7 +41,7 @@ use Rattle.scores.specs.Words.{floatAt, kept-float}
 use Rattle.scores.specs.Measures.{scoreAt, sideAt}
 use Rattle.scores.specs.Measures.{pairOf}
 use Rattle.flips.specs.declared.Quad.{Quad}
-use Rattle.flips.specs.Quads.{quadOf, quadAt, touches, evensAt, afterOf, improvesAt, decides, Ready}
+use Rattle.flips.specs.Quads.{quadOf, quadAt, touches, evensAt, afterOf, gainsOf, improvesAt, decides, Ready}
 
 abbrev pub hingeIn : Quad → Hinge
 hingeIn q = hingeAt (q .one) (q .two) (q .u) (q .v) (q .c) (q .d)
@@ -149,7 +149,7 @@ module _ (s : Scene) (c ls : List ℕ) (p : ℕ) (w : List ℕ) (across begun ke
     pub improves-same : improvesAt s w p kept q (getD ls (q .one) 0) ≡ improves s (pairOf c ls) (sideAt c k)
     unfolding improvesAt gainsBy
     improves-same =
-        ap₂ (λ (x : Float) (e : Bool). Ieee.lt (plus x gainLeast) (afterOf s q (getD ls (q .one) 0)) || (e && Ieee.le (greater x shapeEnough) (afterOf s q (getD ls (q .one) 0))))
+        ap₂ (λ (x : Float) (e : Bool). gainsOf x e (afterOf s q (getD ls (q .one) 0)))
         (ap₂ lesser (shape-is (q .one) (sd .first)) (shape-is (q .two) (sd .second))) evens-same
         ∙ ap (gainsBy s (triangles c) ls) (sym (sd .is))
         ∙ improves-by s (triangles c) ls (sideAt c k)

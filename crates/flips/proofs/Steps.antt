@@ -2,16 +2,17 @@
 use Prim.Native.Nat.{ℕ, _+_, _*_, _-_, _/_, _%_, _<_, _≤_}
 use native.Mathlib.Omega.{arith}
 use mathlib.Core.Path.{_≡_, refl, sym, ap, ap₂, _∙_, subst}
-use mathlib.Core.Bool.{Bool, true, false, not, _&&_, _||_, cond}
+use mathlib.Core.Bool.{Bool, true, false, not, _&&_, _||_, cond, false≢true}
 use mathlib.Core.List.{List}
 use lib.Dec.{T, eqb, ltb}
 use lib.ListN.{length, getD, set, drop}
 use lib.Seq.{getD-take, getD-drop}
 use lib.Ieee as Ieee
-use lib.Ieee.{Float, inf, binary64, ofBits, nanBits}
+use lib.Ieee.{Float, inf, binary64, ofBits, nanBits, isNan}
 use borrow.Author.Tests.{eq-eqb, ne-eqb, lt-ltb, le-ltb}
 use Rattle.float.specs.Order.{lesser, greater}
 use Rattle.float.specs.Point.{plus}
+use Rattle.float.proofs.Below.{lesser-lt, lesser-le, lesser-number}
 use Rattle.surface.specs.Triangle.{tri}
 use Rattle.surface.specs.Closed.{one}
 use Rattle.halfedges.specs.Place.{nx, pv, at}
@@ -24,7 +25,7 @@ use Rattle.sorting.proofs.Parts.{part-length}
 use Rattle.scores.specs.Words.{floatAt, Held, held}
 use Rattle.scores.specs.Measures.{scoreAt}
 use Rattle.flips.specs.declared.Quad.{Quad}
-use Rattle.flips.specs.Quads.{quadOf, quadAt, begunAt, touches, evensAt, beforeAt, afterOf, improvesAt, decides, putTri, flipCorners, touchFour, quadIn, decidesAt, Tried, Ready, Within}
+use Rattle.flips.specs.Quads.{quadOf, quadAt, begunAt, touches, evensAt, beforeAt, firstOf, gainsOf, improvesAt, decides, putTri, flipCorners, touchFour, quadIn, decidesAt, Tried, Ready, Within}
 
 -- a word of a part
 pub part-at : (w : List ℕ) (b n i : ℕ) → i < n → at (part w b n) i ≡ at w (b + i)
@@ -112,30 +113,61 @@ pub top-is : ofBits binary64 0x7ff0_0000_0000_0000 ≡ inf false
 unfolding ofBits
 top-is = refl
 
+top-some : isNan (inf false) ≡ false
+unfolding isNan
+top-some = refl
+
 pub top-number : T (not (nanBits binary64 0x7ff0_0000_0000_0000))
 unfolding nanBits
 top-number = tt
 
-pub after-is : (s : Scene) (q : Quad) (l : ℕ) (x y m r : Float) → x ≡ score s (tri (q .c) (q .d) (q .v)) l → y ≡ score s (tri (q .d) (q .c) (q .u)) l → m ≡ lesser (ofBits binary64 0x7ff0_0000_0000_0000) x → r ≡ lesser m y → r ≡ afterOf s q l
-after-is s q l x y m r e f g h = h ∙ ap₂ lesser (g ∙ ap₂ lesser top-is e) f
+pub first-is : (s : Scene) (q : Quad) (l : ℕ) (x r : Float) → x ≡ score s (tri (q .c) (q .d) (q .v)) l → r ≡ lesser (ofBits binary64 0x7ff0_0000_0000_0000) x → r ≡ firstOf s q l
+first-is s q l x r e g = g ∙ ap₂ lesser top-is e
 
-module _ (s : Scene) (w : List ℕ) (degrees kept : ℕ) (q : Quad) (l : ℕ) (x y : Float) (e : x ≡ beforeAt w kept q) (f : y ≡ afterOf s q l) where
-  opened : Ieee.lt (plus x gainLeast) y || (evensAt w degrees q && Ieee.le (greater x shapeEnough) y) ≡ improvesAt s w degrees kept q l
+-- ---- gains, improves
+
+module _ (x : Float) (e : Bool) (y : Float) where
+  pub gains-yes : Ieee.lt (plus x gainLeast) y ≡ true → true ≡ gainsOf x e y
+  gains-yes g = or-yes (Ieee.lt (plus x gainLeast) y) (e && Ieee.le (greater x shapeEnough) y) g
+
+  pub gains-even : (m : Float) → Ieee.lt (plus x gainLeast) y ≡ false → e ≡ true → m ≡ greater x shapeEnough → Ieee.le m y ≡ gainsOf x e y
+  gains-even m g t i =
+      or-no (Ieee.lt (plus x gainLeast) y) (e && Ieee.le (greater x shapeEnough) y) (Ieee.le m y) g
+      (ap (λ (a : Float). Ieee.le a y) i ∙ sym (ap (λ (a : Bool). a && Ieee.le (greater x shapeEnough) y) t))
+
+  pub gains-no : Ieee.lt (plus x gainLeast) y ≡ false → e ≡ false → false ≡ gainsOf x e y
+  gains-no g t =
+      or-no (Ieee.lt (plus x gainLeast) y) (e && Ieee.le (greater x shapeEnough) y) false g
+      (sym (ap (λ (a : Bool). a && Ieee.le (greater x shapeEnough) y) t))
+
+-- what gains by the lesser of two shapes gains by the first
+gains-first : (x : Float) (e : Bool) (m z : Float) → isNan m ≡ false → gainsOf x e (lesser m z) ≡ true → gainsOf x e m ≡ true
+gains-first x e m z n = by e (Ieee.lt (plus x gainLeast) (lesser m z)) refl
+  where
+    last : (a b : Bool) → b ≡ true → a || b ≡ true
+    last true b h = refl
+    last false b h = h
+
+    by : (e t : Bool) → Ieee.lt (plus x gainLeast) (lesser m z) ≡ t → t || (e && Ieee.le (greater x shapeEnough) (lesser m z)) ≡ true → gainsOf x e m ≡ true
+    by e true g h = sym (gains-yes x e m (lesser-lt (plus x gainLeast) m z n g))
+    by true false g h = last (Ieee.lt (plus x gainLeast) m) (Ieee.le (greater x shapeEnough) m) (lesser-le (greater x shapeEnough) m z n h)
+    by false false g h = absurd (false≢true h)
+
+module _ (s : Scene) (w : List ℕ) (degrees kept : ℕ) (q : Quad) (l : ℕ) (x : Float) (e : Bool) (m : Float) (ex : x ≡ beforeAt w kept q) (ee : e ≡ evensAt w degrees q) (em : m ≡ firstOf s q l) where
+  pub improves-is : (z y : Float) (r : Bool) → z ≡ score s (tri (q .d) (q .c) (q .u)) l → y ≡ lesser m z → r ≡ gainsOf x e y → r ≡ improvesAt s w degrees kept q l
   unfolding improvesAt
-  opened = ap₂ (λ (a b : Float). Ieee.lt (plus a gainLeast) b || (evensAt w degrees q && Ieee.le (greater a shapeEnough) b)) e f
+  improves-is z y r ez ey h =
+      h ∙ ap₂ (λ (a : Float) (b : Bool). gainsOf a b y) ex ee ∙ ap (gainsOf (beforeAt w kept q) (evensAt w degrees q)) (ey ∙ ap₂ lesser em ez)
 
-  pub improves-gain : Ieee.lt (plus x gainLeast) y ≡ true → true ≡ improvesAt s w degrees kept q l
-  improves-gain g = or-yes (Ieee.lt (plus x gainLeast) y) (evensAt w degrees q && Ieee.le (greater x shapeEnough) y) g ∙ opened
+  pub improves-not : (r : Bool) → r ≡ gainsOf x e m → r ≡ false → false ≡ improvesAt s w degrees kept q l
+  improves-not r h f = go (gainsOf x e (lesser m (score s (tri (q .d) (q .c) (q .u)) l))) refl
+    where
+      number : isNan m ≡ false
+      number = subst (λ (a : Float). isNan a ≡ false) (sym em) (lesser-number (inf false) (score s (tri (q .c) (q .d) (q .v)) l) top-some)
 
-  pub improves-even : (b : Bool) (m : Float) → Ieee.lt (plus x gainLeast) y ≡ false → b ≡ evensAt w degrees q → b ≡ true → m ≡ greater x shapeEnough → Ieee.le m y ≡ improvesAt s w degrees kept q l
-  improves-even b m g h t i =
-      or-no (Ieee.lt (plus x gainLeast) y) (evensAt w degrees q && Ieee.le (greater x shapeEnough) y) (Ieee.le m y) g
-      (ap (λ (a : Float). Ieee.le a y) i ∙ ap (λ (a : Bool). a && Ieee.le (greater x shapeEnough) y) (sym t ∙ h)) ∙ opened
-
-  pub improves-none : (b : Bool) → Ieee.lt (plus x gainLeast) y ≡ false → b ≡ evensAt w degrees q → b ≡ false → false ≡ improvesAt s w degrees kept q l
-  improves-none b g h t =
-      or-no (Ieee.lt (plus x gainLeast) y) (evensAt w degrees q && Ieee.le (greater x shapeEnough) y) false g
-      (ap (λ (a : Bool). a && Ieee.le (greater x shapeEnough) y) (sym t ∙ h)) ∙ opened
+      go : (t : Bool) → gainsOf x e (lesser m (score s (tri (q .d) (q .c) (q .u)) l)) ≡ t → false ≡ improvesAt s w degrees kept q l
+      go true g = absurd (false≢true (sym f ∙ h ∙ gains-first x e m (score s (tri (q .d) (q .c) (q .u)) l) number g))
+      go false g = improves-is (score s (tri (q .d) (q .c) (q .u)) l) (lesser m (score s (tri (q .d) (q .c) (q .u)) l)) false refl refl (sym g)
 
 -- ---- what a flip writes
 

@@ -48,13 +48,21 @@ evensAt w degrees q = ltb (at w (degrees + q .c) + at w (degrees + q .d) + 2) (a
 abbrev pub beforeAt : List ℕ → ℕ → Quad → Float
 beforeAt w kept q = lesser (floatAt w (kept + q .one * 2)) (floatAt w (kept + q .two * 2))
 
+-- the shape of the first triangle that a flip makes, where it has one, and the worse of both
+abbrev pub firstOf : Scene → Quad → ℕ → Float
+firstOf s q l = lesser (inf false) (score s (tri (q .c) (q .d) (q .v)) l)
+
 abbrev pub afterOf : Scene → Quad → ℕ → Float
-afterOf s q l = lesser (lesser (inf false) (score s (tri (q .c) (q .d) (q .v)) l)) (score s (tri (q .d) (q .c) (q .u)) l)
+afterOf s q l = lesser (firstOf s q l) (score s (tri (q .d) (q .c) (q .u)) l)
+
+-- the worse shape x becomes y, and e says whether the degrees gain
+abbrev pub gainsOf : Float → Bool → Float → Bool
+gainsOf x e y = Ieee.lt (plus x gainLeast) y || (e && Ieee.le (greater x shapeEnough) y)
 
 unfoldable pub improvesAt : Scene → List ℕ → ℕ → ℕ → Quad → ℕ → Bool
 unfolding lesser greater score
 improvesAt s w degrees kept q l =
-    Ieee.lt (plus (beforeAt w kept q) gainLeast) (afterOf s q l) || (evensAt w degrees q && Ieee.le (greater (beforeAt w kept q) shapeEnough) (afterOf s q l))
+    gainsOf (beforeAt w kept q) (evensAt w degrees q) (afterOf s q l)
 
 -- all that is decided: the labels agree, no corner is touched, the corners across are not joined, and the flip helps
 unfoldable pub decides : Scene → List ℕ → List ℕ → ℕ → ℕ → ℕ → ℕ → Quad → Bool

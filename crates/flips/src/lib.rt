@@ -28,7 +28,7 @@ ghost use Rattle.scores.specs.Measures as Scores;
 ghost use Rattle.scores.specs.Measures.{Filled};
 ghost use Rattle.chains.specs.Marks.{Lists};
 ghost use Rattle.flips.specs.Whole.{acrossFrom, Noted, Begun, Flippable, Flipped};
-ghost use Rattle.flips.specs.Quads.{quadOf, quadAt, begunAt, touches, evensAt, beforeAt, afterOf, improvesAt, putTri, flipCorners, touchFour, Ready, quadIn, decidesAt, Tried, Shaped, Standing, Passed};
+ghost use Rattle.flips.specs.Quads.{quadOf, quadAt, begunAt, touches, evensAt, beforeAt, firstOf, gainsOf, improvesAt, putTri, flipCorners, touchFour, Ready, quadIn, decidesAt, Tried, Shaped, Standing, Passed};
 
 // The four corners of a side's two triangles: the earlier runs from u to v, with c opposite, and d is opposite in the later. `across` is the place of c.
 pub struct Quad {
@@ -111,18 +111,30 @@ fn shape_before(kept: usize, q: Quad, work: &[u32]) -> f64
     )
 }
 
-// The worse shape of the two that a flip would make.
-fn shape_after(points: &[f64], coefficients: &[f64], powers: &[u32], q: Quad, label: u8) -> f64
+// The shape of the first of the two triangles that a flip would make. The worse of both is no better.
+fn shape_first(points: &[f64], coefficients: &[f64], powers: &[u32], q: Quad, label: u8) -> f64
     requires { ⌜ (q .u * 3 + 2 < length (now points)) × (q .v * 3 + 2 < length (now points)) × (q .c * 3 + 2 < length (now points)) × (q .d * 3 + 2 < length (now points)) ⌝ }
-    ensures { λ r. ⌜ r ≡ afterOf (scene (now (points .entry)) (now (coefficients .entry)) (now (powers .entry))) q label ⌝ }
+    ensures { λ r. ⌜ r ≡ firstOf (scene (now (points .entry)) (now (coefficients .entry)) (now (powers .entry))) q label ⌝ }
 {
     let top = f64::from_bits(0x7ff0_0000_0000_0000);
     let first = score(points, coefficients, powers, q.c, q.d, q.v, label);
-    let second = score(points, coefficients, powers, q.d, q.c, q.u, label);
-    min(min(top, first), second)
+    min(top, first)
 }
 
-// Whether the worse shape gains more than 0.01; or the degrees gain, and it is no worse than it was and than 0.5.
+// Whether the worse shape, x before and y after, gains more than 0.01; or the degrees gain, and it is no worse than it was and than 0.5.
+fn gains(x: f64, even: bool, y: f64) -> bool
+    ensures { λ r. ⌜ r ≡ gainsOf x even y ⌝ }
+{
+    if x + 0.01 < y {
+        return true;
+    }
+    if even {
+        return max(x, 0.5) <= y;
+    }
+    false
+}
+
+// Whether the flip helps. Where it would not by the first shape alone, the second is not computed.
 fn improves(
     points: &[f64],
     coefficients: &[f64],
@@ -140,14 +152,13 @@ fn improves(
     ensures { λ r. ⌜ r ≡ improvesAt (scene (now (points .entry)) (now (coefficients .entry)) (now (powers .entry))) (now (work .entry)) degrees kept q label ⌝ }
 {
     let x = shape_before(kept, q, work);
-    let y = shape_after(points, coefficients, powers, q, label);
-    if x + 0.01 < y {
-        return true;
+    let even = evens(degrees, q, work);
+    let first = shape_first(points, coefficients, powers, q, label);
+    if !gains(x, even, first) {
+        return false;
     }
-    if evens(degrees, q, work) {
-        return max(x, 0.5) <= y;
-    }
-    false
+    let second = score(points, coefficients, powers, q.d, q.c, q.u, label);
+    gains(x, even, min(first, second))
 }
 
 fn put_triangle(corners: &mut [u32], i: usize, a: usize, b: usize, c: usize)

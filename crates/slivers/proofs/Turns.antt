@@ -12,6 +12,7 @@ use lib.Ieee as Ieee
 use lib.Ieee.{Float, inf, binary64, ofBits, nanBits}
 use borrow.Author.Tests.{eqb-true, eqb-false, eq-eqb, ne-eqb}
 use Rattle.float.specs.Order.{lesser, within}
+use Rattle.float.proofs.Below.{within-below}
 use Rattle.surface.specs.Triangle.{Tri, tri, triangles, names}
 use Rattle.surface.specs.Closed.{one, Closed}
 use Rattle.surface.specs.Edit.{place, put, renamed}
@@ -77,6 +78,10 @@ moved-is s c ls a b i u v w x y z l eu ev ew ex ey ez =
 
 -- ---- try_place
 
+floor-reached : (q own : Float) → Ieee.le floorHigh q ≡ true → Ieee.lt q (within own floorLow floorHigh) ≡ false
+unfolding Ieee.lt ofBits
+floor-reached q own t = within-below q own floorLow floorHigh refl refl t
+
 module _ (s : Scene) (c ls : List ℕ) (a b k : ℕ) (m : Float) (h : length c % 3 ≡ 0) (l : k < length c) (e : at c k ≡ b) (n : b ≡ a → ⊥) where
   off : eqb (at c k) a ≡ false
   off = ne-eqb (at c k) a (λ z. n (sym e ∙ z))
@@ -115,6 +120,12 @@ module _ (s : Scene) (c ls : List ℕ) (a b k : ℕ) (m : Float) (h : length c %
       valid = sym (ap₂ (λ (u v : Bool). not (not u && v)) not-named (sym falls-is ∙ t));
       least = λ z. g ∙ ap (lesser m) eq ∙ sym (ap (λ (u : Bool). cond u m (lesser m (score s (renamed a b (triOf c k)) (labelOf ls k)))) not-named);
     }
+
+  -- a shape that reaches the highest floor is above any: the triangle's own need not be known
+  pub tried-fine : (x y : ℕ) → x ≡ at c (nx k) → y ≡ at c (pv k) → (x ≡ a → ⊥) → (y ≡ a → ⊥) → (q r : Float) → q ≡ score s (renamed a b (triOf c k)) (labelOf ls k) → Ieee.le floorHigh q ≡ true → r ≡ lesser m q → Tried s c ls a b k m true r
+  tried-fine x y ex ey nx-off pv-off q r eq t g =
+      let own = score s (triOf c k) (labelOf ls k) in
+      tried-high x y ex ey nx-off pv-off q own (within own floorLow floorHigh) eq refl refl r (floor-reached q own t) g
 
 -- ---- try_places
 

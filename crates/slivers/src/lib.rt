@@ -118,6 +118,13 @@ fn try_place(
         remove,
         i,
     );
+    if 0.3 <= q {
+        // No floor is higher: the triangle's own shape need not be known.
+        return Trial {
+            valid: true,
+            least: min(least, q),
+        };
+    }
     let own = score_at(points, corners, labels, coefficients, powers, i);
     if q < clamp(own, 0.05, 0.3) {
         return Trial {

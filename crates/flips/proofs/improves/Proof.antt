@@ -1,6 +1,7 @@
--- `flips::improves` meets its contract: each way out is a case of `improvesAt`. Assumes nothing.
+-- `flips::improves` meets its contract: where the first shape alone does not gain, the worse of both does not. Assumes nothing.
 use Rattle.oracle.specs.Scene.{scene}
-use Rattle.flips.proofs.Steps.{improves-gain, improves-even, improves-none}
+use Rattle.flips.proofs.Steps.{improves-not, improves-is}
+use borrow.Author.Tests.{not-true}
 use borrow.Author.Needs.{needs}
 use Rattle.flips.proofs.improves.Statement.{statement}
 use Rattle.flips.proofs.improves.Tie as tie
@@ -8,38 +9,54 @@ use Rattle.flips.proofs.improves.Tie as tie
 shape-before-requires : tie.Need-shape-before-requires
 shape-before-requires c κs = search needs
 
-shape-after-requires : tie.Need-shape-after-requires
-shape-after-requires c κs = search needs
-
-returns : tie.Need-returns
-returns c =
-    let a = (c .before .before .before .before .before .before .before) in
-    improves-gain (scene (a .args .points .now) (a .args .coefficients .now) (a .args .powers .now)) (a .args .work .now) (a .args .degrees) (a .args .kept) (a .args .q) (a .args .label) _ _ ((c .before .before) .shape-before .ensures) ((c .before) .shape-after .ensures) (c .if1 .taken)
-
 evens-requires : tie.Need-evens-requires
 evens-requires c κs = search needs
 
-max-requires : tie.Need-max-requires
-max-requires c κs = search needs
+shape-first-requires : tie.Need-shape-first-requires
+shape-first-requires c κs = search needs
+
+gains-requires : tie.Need-gains-requires
+gains-requires c κs = search needs
+
+returns : tie.Need-returns
+returns c =
+    let g = c .before in
+    let f = g .before in
+    let e = f .before in
+    let x = e .before in
+    let a = x .before .before .before .before .before .args in
+    improves-not (scene (a .points .now) (a .coefficients .now) (a .powers .now)) (a .work .now) (a .degrees) (a .kept) (a .q) (a .label) (x .shape-before .result) (e .evens .result) (f .shape-first .result) (x .shape-before .ensures) (e .evens .ensures) (f .shape-first .ensures) (g .gains .result) (g .gains .ensures) (not-true (g .gains .result) (c .if1 .taken))
+
+score-requires : tie.Need-score-requires
+score-requires c κs = search needs
+
+min-requires : tie.Need-min-requires
+min-requires c κs = search needs
+
+gains-requires-2 : tie.Need-gains-requires-2
+gains-requires-2 c κs = search needs
 
 returns-2 : tie.Need-returns-2
 returns-2 c =
-    let a = (c .before .before .before .before .before .before .before .before .before .before) in
-    improves-even (scene (a .args .points .now) (a .args .coefficients .now) (a .args .powers .now)) (a .args .work .now) (a .args .degrees) (a .args .kept) (a .args .q) (a .args .label) _ _ ((c .before .before .before .before .before) .shape-before .ensures) ((c .before .before .before .before) .shape-after .ensures) _ _ ((c .before .before .before) .if1 .left) ((c .before .before) .evens .ensures) ((c .before) .if2 .taken) (c .max .ensures)
-
-returns-3 : tie.Need-returns-3
-returns-3 c =
-    let a = (c .before .before .before .before .before .before .before .before .before) in
-    improves-none (scene (a .args .points .now) (a .args .coefficients .now) (a .args .powers .now)) (a .args .work .now) (a .args .degrees) (a .args .kept) (a .args .q) (a .args .label) _ _ ((c .before .before .before .before) .shape-before .ensures) ((c .before .before .before) .shape-after .ensures) _ ((c .before .before) .if1 .left) ((c .before) .evens .ensures) (c .if2 .left)
+    let y = c .before in
+    let z = y .before in
+    let g = z .before .before in
+    let f = g .before in
+    let e = f .before in
+    let x = e .before in
+    let a = x .before .before .before .before .before .args in
+    improves-is (scene (a .points .now) (a .coefficients .now) (a .powers .now)) (a .work .now) (a .degrees) (a .kept) (a .q) (a .label) (x .shape-before .result) (e .evens .result) (f .shape-first .result) (x .shape-before .ensures) (e .evens .ensures) (f .shape-first .ensures) (z .score .result) (y .min .result) (c .gains2 .result) (z .score .ensures) (y .min .ensures) (c .gains2 .ensures)
 
 pub improves-spec : {M : Type 1} → statement M
 improves-spec =
     tie.close
     (tie.spec
     shape-before-requires
-    shape-after-requires
-    returns
     evens-requires
-    max-requires
-    returns-2
-    returns-3)
+    shape-first-requires
+    gains-requires
+    returns
+    score-requires
+    min-requires
+    gains-requires-2
+    returns-2)
