@@ -1,7 +1,6 @@
--- `Chain`: the places of a corner in rising order, and walks along them. `Flat`: the triangles of a corner list by its places. `Hinges`: the hinge of a side by its two places. `Common`: the common neighbours of its ends.
+-- `Chain`: the places of a corner in rising order, and walks along them. `Flat`: a side by its place. `Common`: the common neighbours of a side's ends. `Marks`, `Clear`, `SideMarks`, `AcrossMarks`, `LabelMarks`: what the functions of `marks` are handed and leave.
 pub mod Chain
 pub mod Flat
-pub mod Hinges
 pub mod Common
 pub mod Marks
 pub mod Clear

@@ -17,7 +17,7 @@ use Rattle.surface.specs.Triangle.{triangles}
 use Rattle.surface.specs.Closed.{one}
 use Rattle.halfedges.specs.Place.{at}
 use Rattle.sides.specs.Side.{Twin, sorted}
-use Rattle.sides.specs.Order.{among-at}
+use Rattle.sides.proofs.Order.{among-at}
 use Rattle.sorting.specs.Stable as Stable
 use Rattle.sorting.specs.Stable.{part, keyOf, keysIn, SortAsks, Sorts}
 use Rattle.sorting.proofs.Parts.{part-length}

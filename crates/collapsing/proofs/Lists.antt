@@ -14,8 +14,10 @@ use Rattle.sides.specs.Valence.{Valued}
 use Rattle.sorting.specs.Stable.{part}
 use Rattle.sorting.proofs.Parts.{part-length}
 use Rattle.sorting.proofs.Tallying.{getD-in-part}
-use Rattle.chains.specs.Marks.{Lists, Marking, marking-kept}
-use Rattle.chains.specs.Clear.{ChainedAt, part-in, part-under}
+use Rattle.chains.specs.Marks.{Lists, Marking}
+use Rattle.chains.proofs.Marks.{marking-kept}
+use Rattle.chains.specs.Clear.{ChainedAt}
+use Rattle.chains.proofs.Clear.{part-in, part-under}
 use Rattle.chains.specs.LabelMarks.{Carried}
 use Rattle.chains.specs.SideMarks.{SidesMarked}
 use Rattle.collapsing.specs.Areas.{sidesFrom, chainsFrom, carriedFrom, stampsFrom, lonesFrom, weakFrom}

@@ -13,10 +13,11 @@ use Rattle.surface.specs.Edit.{place}
 use Rattle.surface.proofs.Flat.{place-triangles}
 use Rattle.halfedges.specs.Place.{at}
 use Rattle.sides.specs.Side.{Twin, sorted}
-use Rattle.sides.specs.Order.{Upward, among-at}
+use Rattle.sides.specs.Order.{Upward}
+use Rattle.sides.proofs.Order.{among-at}
 use Rattle.sorting.specs.Stable.{part}
 use Rattle.sorting.proofs.Parts.{part-length}
-use Rattle.chains.specs.Flat.{thirds-length}
+use Rattle.chains.proofs.Flat.{thirds-length}
 use Rattle.chains.specs.Marks.{Lists, Cleared}
 use Rattle.rounds.specs.Renumber.{renumber, renumbered}
 use Rattle.rounds.specs.Choices.{Side, collapseStart}

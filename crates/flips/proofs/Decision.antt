@@ -25,8 +25,8 @@ use Rattle.halfedges.proofs.Turns.{same-or}
 use Rattle.halfedges.proofs.Whole.{nx-pv}
 use Rattle.halfedges.proofs.Fine.{nx-below, pv-below}
 use Rattle.sides.specs.Side.{Twin, Met}
-use Rattle.sides.specs.Met.{met-of}
-use Rattle.sides.specs.Twins.{twin-twice}
+use Rattle.sides.proofs.Meeting.{met-of}
+use Rattle.sides.proofs.Twins.{twin-twice}
 use Rattle.history.specs.History.{exists}
 use Rattle.rounds.specs.Choices.{Side, mayFlip}
 use Rattle.rounds.specs.Flips.{FlipState}
@@ -35,9 +35,10 @@ use Rattle.oracle.specs.Number.{gainLeast, shapeEnough}
 use Rattle.oracle.specs.Scene.{Scene, score}
 use Rattle.oracle.specs.Gains.{degree, evens, improves, helps}
 use Rattle.oracle.proofs.Even.{even}
-use Rattle.chains.specs.Flat.{runs-side, around-uses}
-use Rattle.chains.specs.Hinges.{hingeAt, hingeOf, Ordered, ordered, ahead, behind}
-use Rattle.scores.specs.Words.{floatAt, kept-float}
+use Rattle.chains.proofs.Flat.{runs-side, around-uses}
+use Rattle.chains.proofs.Hinges.{hingeAt, hingeOf, Ordered, ordered, ahead, behind}
+use Rattle.scores.specs.Words.{floatAt}
+use Rattle.scores.proofs.Words.{kept-float}
 use Rattle.scores.specs.Measures.{scoreAt, sideAt}
 use Rattle.scores.specs.Measures.{pairOf}
 use Rattle.flips.specs.declared.Quad.{Quad}

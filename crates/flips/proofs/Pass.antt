@@ -22,7 +22,7 @@ use Rattle.history.specs.History.{Pair}
 use Rattle.rounds.specs.Choices.{Side, mayFlip, flipStep, flipPass, flipsOf}
 use Rattle.rounds.specs.Flips.{FlipState, flipAt, flipEntry}
 use Rattle.oracle.specs.Scene.{Scene}
-use Rattle.scores.specs.Words.{kept-same}
+use Rattle.scores.proofs.Words.{kept-same}
 use Rattle.scores.specs.Measures.{scoreAt}
 use Rattle.scores.specs.Measures.{pairOf}
 use Rattle.flips.specs.declared.Quad.{Quad}

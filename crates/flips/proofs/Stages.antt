@@ -13,7 +13,7 @@ use Rattle.halfedges.proofs.Fine.{nx-below}
 use Rattle.sides.specs.Side.{Twin, sorted, sides-from}
 use Rattle.sides.specs.Whole.{Handed, Listed}
 use Rattle.sides.specs.Valence.{Valued}
-use Rattle.sides.specs.Order.{among-at}
+use Rattle.sides.proofs.Order.{among-at}
 use Rattle.sorting.specs.Stable.{part}
 use Rattle.sorting.proofs.Parts.{part-length}
 use Rattle.chains.specs.Chain.{Chained}
@@ -25,7 +25,7 @@ use Rattle.oracle.specs.Scene.{Scene, scene}
 use Rattle.oracle.specs.Rising.{rising}
 use Rattle.oracle.specs.Gains.{helps}
 use Rattle.oracle.specs.Round.{flipped, flips}
-use Rattle.scores.specs.Words.{kept-same}
+use Rattle.scores.proofs.Words.{kept-same}
 use Rattle.scores.specs.Measures as Scores
 use Rattle.scores.specs.Measures.{scoreAt, sideAt, Filled}
 use Rattle.scores.specs.Measures.{pairOf}

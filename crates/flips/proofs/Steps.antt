@@ -22,7 +22,8 @@ use Rattle.sorting.specs.Stable.{part}
 use Rattle.oracle.specs.Number.{gainLeast, shapeEnough}
 use Rattle.oracle.specs.Scene.{Scene, score}
 use Rattle.sorting.proofs.Parts.{part-length}
-use Rattle.scores.specs.Words.{floatAt, Held, held}
+use Rattle.scores.specs.Words.{floatAt, Held}
+use Rattle.scores.proofs.Words.{held}
 use Rattle.scores.specs.Measures.{scoreAt}
 use Rattle.flips.specs.declared.Quad.{Quad}
 use Rattle.flips.specs.Quads.{quadOf, quadAt, begunAt, touches, evensAt, beforeAt, firstOf, gainsOf, improvesAt, decides, putTri, flipCorners, touchFour, quadIn, decidesAt, Tried, Ready, Within}

@@ -20,7 +20,8 @@ use Rattle.rounds.specs.Choices.{Side, flipStep, flipStart, flipPass, flipsOf}
 use Rattle.rounds.specs.Flips.{FlipState}
 use Rattle.oracle.specs.Scene.{Scene, score}
 use Rattle.oracle.specs.Gains.{helps}
-use Rattle.scores.specs.Words.{putAt, Kept, put-other, put-kept, put-keeps}
+use Rattle.scores.specs.Words.{putAt, Kept}
+use Rattle.scores.proofs.Words.{put-other, put-kept, put-keeps}
 use Rattle.scores.specs.Measures.{scoreAt, sideAt}
 use Rattle.scores.specs.Measures.{pairOf}
 use Rattle.flips.specs.declared.Quad.{Quad}

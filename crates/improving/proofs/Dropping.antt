@@ -10,7 +10,7 @@ use Rattle.surface.specs.Triangle.{Tri, tri, triangles, corners}
 use Rattle.surface.specs.Edit.{place}
 use Rattle.surface.proofs.Flat.{place-triangles, corners-triangles, length-corners}
 use Rattle.halfedges.specs.Place.{at}
-use Rattle.chains.specs.Flat.{thirds-length}
+use Rattle.chains.proofs.Flat.{thirds-length}
 use Rattle.history.specs.History.{Pair}
 use Rattle.history.specs.Lists.{thenZero}
 use Rattle.rounds.specs.Pass.{State, retain, result}

@@ -14,9 +14,9 @@ use Rattle.surface.proofs.Flat.{triangles-corners, corners-triangles}
 use Rattle.halfedges.specs.Place.{at}
 use Rattle.halfedges.proofs.Fine.{nx-below}
 use Rattle.sides.specs.Side.{sorted}
-use Rattle.sides.specs.Met.{met-of}
-use Rattle.sides.specs.Count.{half}
-use Rattle.chains.specs.Flat.{thirds-length}
+use Rattle.sides.proofs.Meeting.{met-of}
+use Rattle.sides.proofs.Count.{half}
+use Rattle.chains.proofs.Flat.{thirds-length}
 use Rattle.history.specs.History.{Pair, Entry}
 use Rattle.history.specs.Lists.{thenZero}
 use Rattle.rounds.specs.Renumber.{renumbered, number, firstUse}

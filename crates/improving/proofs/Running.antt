@@ -17,7 +17,7 @@ use Rattle.surface.proofs.Euler.{use-has}
 use Rattle.surface.proofs.Bridge.{in-use}
 use Rattle.surface.proofs.Places.{has-place}
 use Rattle.halfedges.specs.Place.{at, nx, pv}
-use Rattle.chains.specs.Flat.{thirds-length, place-at, reads-spot}
+use Rattle.chains.proofs.Flat.{thirds-length, place-at, reads-spot}
 use Rattle.chains.specs.Marks.{Lists}
 use Rattle.history.specs.Lists.{thenZero}
 use Rattle.oracle.specs.Round.{Mesh, Sheet, Result, count, dropped, numbered, flipped, flips, round, rounds}

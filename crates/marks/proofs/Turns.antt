@@ -15,13 +15,18 @@ use Rattle.surface.specs.Triangle.{triangles}
 use Rattle.halfedges.specs.Place.{nx, pv, at, uses}
 use Rattle.halfedges.proofs.Fine.{nx-below}
 use Rattle.sides.specs.Side.{Twin}
-use Rattle.chains.specs.Chain.{from, from-next, Chained, walk, spot, Onward, onward-start, onward-next, onward-less, Upto, upto-start, upto-next}
-use Rattle.chains.specs.Clear.{at-front}
+use Rattle.chains.specs.Chain.{from, Chained, walk}
+use Rattle.chains.proofs.Chain.{from-next, spot, Onward, onward-start, onward-next, onward-less, Upto, upto-start, upto-next}
+use Rattle.chains.proofs.Clear.{at-front}
 use Rattle.chains.specs.Common.{lone}
-use Rattle.chains.specs.Marks.{Cleared, Lists, below-next, below-last, marking-kept, Chaining, chain-first, chain-turn, stampAt, Stamping, stamping, Walking, Marking}
-use Rattle.chains.specs.SideMarks.{stamped-of, MarkedBelow, SidesMarked, marked-all, told-lone, marked-none, marked-turn, Strange, Told, Third, Passes, Stamped, Right, Keeps, keeps-none, keeps-more, Marked, Settled, MarkedOf, settled-more}
-use Rattle.chains.specs.AcrossMarks.{AcrossBelow, across, AcrossOf, across-first, across-turn, stamp-joined}
-use Rattle.chains.specs.LabelMarks.{Labelled, Carrying, carry-turn}
+use Rattle.chains.specs.Marks.{Cleared, Lists, stampAt, Walking, Marking}
+use Rattle.chains.proofs.Marks.{below-next, below-last, marking-kept, Chaining, chain-first, chain-turn, Stamping, stamping}
+use Rattle.chains.specs.SideMarks.{SidesMarked, Strange, Told, Third, Passes, Stamped, Right, Keeps, Marked, Settled, MarkedOf}
+use Rattle.chains.proofs.SideMarks.{stamped-of, MarkedBelow, marked-all, told-lone, marked-none, marked-turn, keeps-none, keeps-more, settled-more}
+use Rattle.chains.specs.AcrossMarks.{AcrossBelow, across, AcrossOf}
+use Rattle.chains.proofs.AcrossMarks.{across-first, across-turn, stamp-joined}
+use Rattle.chains.specs.LabelMarks.{Labelled}
+use Rattle.chains.proofs.LabelMarks.{Carrying, carry-turn}
 
 -- the words that `clear` leaves
 pub zero-at : (n j : ℕ) (w t : List ℕ) → w ≡ replicate n 0 ++ t → j < n → at w j ≡ 0

@@ -21,7 +21,8 @@ use Rattle.rounds.specs.Renumber.{index, meet, met, firstUse, walk}
 use Rattle.rounds.proofs.FirstUse.{In, index-append, index-new, met-adds, has-corner, first-fewer}
 use Rattle.rounds.proofs.Loops.{met-more, walk-more, meet-old, meet-new, not-met}
 use Rattle.oracle.specs.Points.{gathered}
-use Rattle.scores.specs.Words.{floatAt, Kept, held, kept-float, kept-same}
+use Rattle.scores.specs.Words.{floatAt, Kept}
+use Rattle.scores.proofs.Words.{held, kept-float, kept-same}
 use Rattle.renumber.specs.Numbered.{Numberable, Numbered, loaded, Loadable, Meetable, Met, old, new}
 
 -- ---- the functions without loops

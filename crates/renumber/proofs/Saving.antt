@@ -8,7 +8,8 @@ use native.Mathlib.Decide.{ℕ-discrete}
 use lib.Dec.{T}
 use lib.ListN.{length, getD}
 use lib.Ieee.{Float, nan, binary64, fits}
-use Rattle.scores.specs.Words.{putAt, Kept, put-length, put-other, put-kept, put-keeps}
+use Rattle.scores.specs.Words.{putAt, Kept}
+use Rattle.scores.proofs.Words.{put-length, put-other, put-kept, put-keeps}
 use Rattle.renumber.specs.Saved.{Saved}
 
 -- the first k floats are saved

@@ -14,7 +14,8 @@ use Rattle.surface.specs.Triangle.{triangles}
 use Rattle.surface.specs.Closed.{Closed, one}
 use Rattle.halfedges.specs.Place.{at}
 use Rattle.sides.specs.Side.{Twin, sorted}
-use Rattle.sides.specs.Order.{Sorted, among-at}
+use Rattle.sides.specs.Order.{Sorted}
+use Rattle.sides.proofs.Order.{among-at}
 use Rattle.sorting.specs.Stable as Stable
 use Rattle.rounds.specs.Choices.{Side}
 use Rattle.oracle.specs.Number.{shortPart}

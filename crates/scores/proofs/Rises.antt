@@ -11,8 +11,8 @@ use Rattle.surface.specs.Triangle.{triangles}
 use Rattle.surface.specs.Closed.{Closed, sides}
 use Rattle.halfedges.specs.Place.{nx, at}
 use Rattle.sides.specs.Side.{find, gate, add, row, rows, sorted}
-use Rattle.sides.specs.Edge.{find-is, find-some}
-use Rattle.chains.specs.Flat.{runs-side, side-runs}
+use Rattle.sides.proofs.Edge.{find-is, find-some}
+use Rattle.chains.proofs.Flat.{runs-side, side-runs}
 use Rattle.rounds.specs.Choices.{Side}
 use Rattle.oracle.specs.Rising.{side, joined, rowOf, rowsOf, rising}
 use Rattle.scores.specs.Measures.{sideAt}

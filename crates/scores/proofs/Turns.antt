@@ -31,7 +31,8 @@ use Rattle.sorting.proofs.Parts.{part-cons, part-none}
 use Rattle.rounds.specs.Choices.{Side}
 use Rattle.oracle.specs.Scene.{scene, pointAt, score, squared}
 use Rattle.oracle.specs.Candidates.{chosen, total, lengthBits}
-use Rattle.scores.specs.Words.{putAt, Kept, kept-bits, put-length, put-other, put-kept, put-keeps}
+use Rattle.scores.specs.Words.{putAt, Kept}
+use Rattle.scores.proofs.Words.{kept-bits, put-length, put-other, put-kept, put-keeps}
 use Rattle.scores.specs.Measures.{Pointed, Lists, scoreAt, Filled, sideAt, Measurable, Measured, Marked, picks, upFrom, Picked}
 
 pub byte-one : (b : Bool) → boolByte b ≡ one b

@@ -17,9 +17,9 @@ use Rattle.surface.proofs.Reading.{Reads, times-hits, reads-hits}
 use Rattle.surface.proofs.Hinged.{runs-no, has-either}
 use Rattle.halfedges.specs.Place.{nx, pv, at}
 use Rattle.sides.specs.Side.{Twin, Met}
-use Rattle.sides.specs.Met.{met-of}
-use Rattle.chains.specs.Common.{same-test}
-use Rattle.chains.specs.Flat.{thirds-length, triangle-low, place-reads, reads-spot}
+use Rattle.sides.proofs.Meeting.{met-of}
+use Rattle.chains.proofs.Common.{same-test}
+use Rattle.chains.proofs.Flat.{thirds-length, triangle-low, place-reads, reads-spot}
 use Rattle.oracle.specs.Number.{weakBelow}
 use Rattle.oracle.specs.Scene.{Scene, score, squared}
 use Rattle.oracle.specs.Candidates.{weak, candidate}

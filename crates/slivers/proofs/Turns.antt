@@ -24,19 +24,26 @@ use Rattle.rounds.specs.Choices.{collapseStep}
 use Rattle.halfedges.specs.Place.{nx, pv, at, uses}
 use Rattle.halfedges.proofs.Whole.{closed-differing}
 use Rattle.sides.specs.Side.{Twin}
-use Rattle.chains.specs.Chain.{from, walk, walk-here, spot, Onward, onward-start, onward-next, onward-less, Upto, upto-start, upto-next}
+use Rattle.chains.specs.Chain.{from, walk}
+use Rattle.chains.proofs.Chain.{walk-here, spot, Onward, onward-start, onward-next, onward-less, Upto, upto-start, upto-next}
 use Rattle.chains.specs.Common.{lone}
-use Rattle.chains.specs.Marks.{Lists, below-next, below-last, Walking}
+use Rattle.chains.specs.Marks.{Lists, Walking}
+use Rattle.chains.proofs.Marks.{below-next, below-last}
 use Rattle.oracle.specs.Number.{floorLow, floorHigh}
 use Rattle.oracle.specs.Scene.{Scene, score}
 use Rattle.oracle.specs.Slivers.{floor, worst, fit, valid, least, pass}
 use Rattle.scores.specs.Measures.{scoreAt, sideAt}
 use Rattle.slivers.specs.Survey.{On, Survey}
-use Rattle.slivers.specs.Cover.{Lacks, Covering, Covers, cover-turn, covers-covered}
-use Rattle.slivers.specs.Touch.{isTouched, touchAt, among, Touching, touching, names-among}
-use Rattle.slivers.specs.Trials.{triOf, labelOf, falls, okAt, stepAt, lowered, walk-least, places-valid, valid-places, Trials}
-use Rattle.slivers.specs.Stand.{pairOf, Stands, Collapsed, collapse-len, collapse-under, stands-collapse}
-use Rattle.slivers.specs.Decide.{stepOf, mayAt, wayOf, chosen, step-off, step-way, pass-more}
+use Rattle.slivers.specs.Cover.{Lacks, Covering, Covers}
+use Rattle.slivers.proofs.Covering.{cover-turn, covers-covered}
+use Rattle.slivers.specs.Touch.{isTouched, touchAt}
+use Rattle.slivers.proofs.Touching.{among, Touching, touching, names-among}
+use Rattle.slivers.specs.Trials.{triOf, labelOf, falls, okAt, stepAt, lowered, Trials}
+use Rattle.slivers.proofs.Trials.{walk-least, places-valid, valid-places}
+use Rattle.slivers.specs.Stand.{pairOf, Stands}
+use Rattle.slivers.proofs.Stand.{Collapsed, collapse-len, collapse-under, stands-collapse}
+use Rattle.slivers.specs.Decide.{stepOf, mayAt, wayOf}
+use Rattle.slivers.proofs.Decide.{chosen, step-off, step-way, pass-more}
 use Rattle.slivers.specs.Ready.{Ready, Walks, Tried, Attempt, Way, collapsedWords, Advance, candidatesIn, Passing, Items}
 
 -- ---- labels

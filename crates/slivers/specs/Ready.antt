@@ -1,26 +1,22 @@
--- What the functions of the collapse pass are handed and leave.
-use Prim.Native.Nat.{ℕ, zero, suc, _+_, _*_, _/_, _%_, _<_, _≤_}
-use native.Mathlib.Omega.{arith}
-use mathlib.Core.Path.{_≡_, refl, sym, ap, _∙_, subst}
-use mathlib.Core.Logic.{_⊎_, inl, inr}
-use mathlib.Core.Bool.{Bool, true, false}
+-- What the functions of the collapse pass are handed and leave. Definitions only.
+use Prim.Native.Nat.{ℕ, zero, suc, _+_, _*_, _/_, _<_, _≤_}
+use mathlib.Core.Path.{_≡_}
+use mathlib.Core.Bool.{Bool, true}
 use mathlib.Core.List.{List, [], _∷_, _++_}
 use lib.ListN.{length, set}
 use lib.Ieee as Ieee
 use lib.Ieee.{Float}
 use Rattle.surface.specs.Triangle.{triangles}
 use Rattle.surface.specs.Closed.{one, Closed}
-use Rattle.history.specs.History.{Pair}
 use Rattle.rounds.specs.Pass.{State}
 use Rattle.rounds.specs.Choices.{Side}
-use Rattle.halfedges.specs.Place.{nx, pv, at, uses}
+use Rattle.halfedges.specs.Place.{at, uses}
 use Rattle.sides.specs.Side.{Twin}
 use Rattle.chains.specs.Chain.{walk, Chained}
 use Rattle.chains.specs.Common.{lone}
 use Rattle.chains.specs.LabelMarks.{Labelled, Carried}
 use Rattle.chains.specs.Marks.{Lists}
 use Rattle.scores.specs.Measures.{sideAt}
-use Rattle.slivers.specs.Survey.{On, Survey}
 use Rattle.oracle.specs.Scene.{Scene}
 use Rattle.oracle.specs.Slivers.{worst, fit, pass}
 use Rattle.slivers.specs.Touch.{touchAt}
@@ -44,30 +40,6 @@ pub record Ready (ps : List Float) (c ls : List ℕ) (p : ℕ) (w : List ℕ) (c
   pub third : carried + p * 8 ≤ touched
   pub fourth : marks + length c ≤ touched
   pub room : touched + p * 2 + length ls ≤ length w
-
-pub ready-kept : {ps : List Float} {c ls : List ℕ} {p : ℕ} {w : List ℕ} {chains carried marks touched : ℕ} (w′ : List ℕ) → length w′ ≡ length w → ((j : ℕ) → j < touched → at w′ j ≡ at w j) → Ready ps c ls p w chains carried marks touched → Ready ps c ls p w′ chains carried marks touched
-ready-kept {ps} {c} {ls} {p} {w} {chains} {carried} {marks} {touched} w′ e k r = record {
-  lists = r .lists;
-  coords = r .coords;
-  labelled = r .labelled;
-  closed = r .closed;
-  chained = record {
-    heads = λ v l. k (chains + v) (omega (arith, r .second)) ∙ r .chained .heads v l;
-    links = λ i l. k (chains + p + i) (omega (arith, r .second)) ∙ r .chained .links i l;
-  };
-  carries = record { each = λ v l a b. k (carried + v * 8 + l) (omega (arith, r .third)) ∙ r .carries .each v l a b };
-  twins = λ i l. subst (Twin c i) (sym (k (p * 3 + length c + i) (omega (arith, r .first)))) (r .twins i l);
-  valences = λ v l. k (p + v) (omega (arith, r .first)) ∙ r .valences v l;
-  lones = λ i l. k (marks + i) (omega (arith, r .fourth)) ∙ r .lones i l;
-  first = r .first;
-  second = r .second;
-  third = r .third;
-  fourth = r .fourth;
-  room = omega (arith, r .room);
-}
-
-pub survey-of : {ps : List Float} {c ls : List ℕ} {p : ℕ} {w : List ℕ} {chains carried marks touched : ℕ} → Ready ps c ls p w chains carried marks touched → Survey ps c ls
-survey-of {ps} {c} {ls} {p} r = let z : p ≡ length ps / 3 = omega (arith, r .coords) in record { lists = subst (Lists c) z (r .lists); labels = r .labelled .size }
 
 -- one triangle tried
 pub record Tried (s : Scene) (c ls : List ℕ) (a b k : ℕ) (m : Float) (ok : Bool) (r : Float) : Type 0 where
@@ -101,6 +73,7 @@ unfoldable pub candidatesIn : List ℕ → List ℕ → ℕ → ℕ → ℕ → 
 candidatesIn c w sides items zero = []
 candidatesIn c w sides items (suc j) = candidatesIn c w sides items j ++ (sideAt c (at w (sides + at w (items + j))) ∷ [])
 
+-- what the first j items leave
 pub record Passing (s : Scene) (c ls : List ℕ) (p sides items touched : ℕ) (w w′ : List ℕ) (j : ℕ) : Type 0 where
   pub len : length w′ ≡ length w
   pub under : (i : ℕ) → i < touched → at w′ i ≡ at w i

@@ -5,11 +5,11 @@ use differential::{
     checking::mesh,
     improving::{pinch, told},
     random::Random,
-    surfaces::{Surface, sphere},
+    surfaces::{Surface, bipyramid, sphere},
 };
 use lanovishel::{Field, Improved};
 
-/// Spheres with uneven triangles and short sides.
+/// Spheres with uneven triangles and short sides, and bipyramids, which have two corners of half the triangles each.
 pub fn table() {
     head("improving", "ours, µs", "`improve`, µs");
     for times in 4..=6 {
@@ -18,12 +18,15 @@ pub fn table() {
         surface.jitter(&mut random, 0.3 / f64::powi(2.0, times as i32));
         (0..surface.triangle_count() / 16).for_each(|_| pinch(&mut surface, &mut random));
         for rounds in [1, 5] {
-            measure(&surface, rounds);
+            measure("sphere", &surface, rounds);
         }
+    }
+    for around in [1024, 4096, 16384] {
+        measure("bipyramid", &bipyramid(around), 1);
     }
 }
 
-fn measure(surface: &Surface, rounds: u32) {
+fn measure(name: &str, surface: &Surface, rounds: u32) {
     let calls = if surface.triangle_count() > 10_000 {
         5
     } else {
@@ -42,7 +45,7 @@ fn measure(surface: &Surface, rounds: u32) {
     let triangles = surface.triangle_count();
     let collapses = (triangles - left.triangles as usize) / 2;
     let done = format!("{collapses} collapses, {} flips", left.flips);
-    let what = format!("{triangles} triangles, rounds: {rounds} ({done})");
+    let what = format!("{name}, {triangles} triangles, rounds: {rounds} ({done})");
     row(&what, means(calls, ours, theirs));
 }
 

@@ -5,7 +5,7 @@ use Prim.Native.Nat.{_-_, _≤_}
 use mathlib.Core.Path.{_≡_, refl, _∙_}
 use lib.ListN.{length}
 use Rattle.oracle.specs.Scene.{scene}
-use Rattle.scores.specs.Words.{put-length}
+use Rattle.scores.proofs.Words.{put-length}
 use Rattle.flips.specs.Quads.{Shaped}
 use Rattle.flips.proofs.Turns.{shaped-none, shaped-more, shaped-less}
 use Rattle.flips.proofs.keep_scores.Statement.{statement}

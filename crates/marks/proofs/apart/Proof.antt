@@ -7,8 +7,9 @@ use native.Mathlib.Omega.{arith}
 use lib.ListN.{length}
 use denote.Ref.{now}
 use Rattle.halfedges.specs.Place.{at}
-use Rattle.chains.specs.Chain.{spot}
-use Rattle.chains.specs.Marks.{Walking, below-next}
+use Rattle.chains.proofs.Chain.{spot}
+use Rattle.chains.specs.Marks.{Walking}
+use Rattle.chains.proofs.Marks.{below-next}
 use Rattle.chains.specs.SideMarks.{Strange}
 use Rattle.marks.proofs.Turns.{Tells, tells-first, tells-next, tells-less, tells-no, tells-yes}
 use Rattle.marks.proofs.apart.Statement.{statement}

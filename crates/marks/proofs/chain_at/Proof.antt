@@ -1,6 +1,6 @@
 -- `marks::chain_at` meets its contract: the words from `chains` on are lent to `chain_places`, and come back.
 use mathlib.Core.Path.{refl}
-use Rattle.chains.specs.Clear.{chained-at}
+use Rattle.chains.proofs.Clear.{chained-at}
 use borrow.Author.Needs.{needs}
 use Rattle.marks.proofs.chain_at.Statement.{statement}
 use Rattle.marks.proofs.chain_at.Tie as tie

@@ -6,7 +6,8 @@ use native.Mathlib.Omega.{arith}
 use lib.ListN.{length, drop, set, length-set}
 use denote.Ref.{now}
 use Rattle.halfedges.specs.Place.{at}
-use Rattle.chains.specs.Marks.{Lists, Chaining, chain-first, chain-last}
+use Rattle.chains.specs.Marks.{Lists}
+use Rattle.chains.proofs.Marks.{Chaining, chain-first, chain-last}
 use Rattle.marks.proofs.Turns.{zero-at, from-most, chain-turn′}
 use Rattle.marks.proofs.chain_places.Statement.{statement}
 use Rattle.marks.proofs.chain_places.Tie as tie

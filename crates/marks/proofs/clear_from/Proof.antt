@@ -1,7 +1,7 @@
 -- `marks::clear_from` meets its contract: the words from `from` on are lent to `clear`, and come back.
 use mathlib.Core.Path.{refl}
 use denote.Ref.{now}
-use Rattle.chains.specs.Clear.{clear-part}
+use Rattle.chains.proofs.Clear.{clear-part}
 use borrow.Author.Needs.{needs}
 use Rattle.marks.proofs.clear_from.Statement.{statement}
 use Rattle.marks.proofs.clear_from.Tie as tie

@@ -6,8 +6,10 @@ use native.Mathlib.Omega.{arith}
 use lib.ListN.{length}
 use denote.Ref.{now}
 use Rattle.halfedges.specs.Place.{at}
-use Rattle.chains.specs.Marks.{Marking, marking-kept, walking-of, Cleared}
-use Rattle.chains.specs.AcrossMarks.{AcrossBelow, across-none, across-more}
+use Rattle.chains.specs.Marks.{Marking, Cleared}
+use Rattle.chains.proofs.Marks.{marking-kept, walking-of}
+use Rattle.chains.specs.AcrossMarks.{AcrossBelow}
+use Rattle.chains.proofs.AcrossMarks.{across-none, across-more}
 use Rattle.marks.proofs.Turns.{turn-kept, turn-stamping, turn-marking, turn-stamped, across-end}
 use Rattle.marks.proofs.mark_across.Statement.{statement}
 use Rattle.marks.proofs.mark_across.Tie as tie

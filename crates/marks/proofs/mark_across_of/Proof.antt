@@ -8,8 +8,9 @@ use lib.Dec.{eqb}
 use lib.ListN.{length}
 use denote.Ref.{now}
 use Rattle.halfedges.specs.Place.{at}
-use Rattle.chains.specs.Chain.{spot}
-use Rattle.chains.specs.Marks.{Marking, below-last}
+use Rattle.chains.proofs.Chain.{spot}
+use Rattle.chains.specs.Marks.{Marking}
+use Rattle.chains.proofs.Marks.{below-last}
 use Rattle.chains.specs.AcrossMarks.{AcrossOf}
 use Rattle.marks.proofs.Turns.{Acrossing, acrossing-first, acrossing-next, acrossing-less, twin-low, bit-low, bit-one}
 use Rattle.marks.proofs.mark_across_of.Statement.{statement}

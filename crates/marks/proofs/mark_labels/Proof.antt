@@ -5,7 +5,7 @@ use mathlib.Core.List.{List}
 use native.Mathlib.Omega.{arith}
 use lib.ListN.{length, drop}
 use denote.Ref.{now}
-use Rattle.chains.specs.LabelMarks.{Carrying, carry-first, carry-last}
+use Rattle.chains.proofs.LabelMarks.{Carrying, carry-first, carry-last}
 use Rattle.marks.proofs.Turns.{zero-at, carry-turn′}
 use Rattle.marks.proofs.mark_labels.Statement.{statement}
 use Rattle.marks.proofs.mark_labels.Tie as tie

@@ -7,7 +7,8 @@ use mir.Val.{boolByte}
 use lib.ListN.{length}
 use denote.Ref.{now}
 use Rattle.halfedges.specs.Place.{at}
-use Rattle.chains.specs.Marks.{Marking, walking-of}
+use Rattle.chains.specs.Marks.{Marking}
+use Rattle.chains.proofs.Marks.{walking-of}
 use Rattle.marks.proofs.Turns.{corner-low, other-low, place-low, side-skipped, side-done, bit-low}
 use borrow.Author.Needs.{needs}
 use Rattle.marks.proofs.mark_side.Statement.{statement}

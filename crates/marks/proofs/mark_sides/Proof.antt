@@ -6,8 +6,9 @@ use native.Mathlib.Omega.{arith}
 use lib.ListN.{length}
 use denote.Ref.{now}
 use Rattle.halfedges.specs.Place.{at}
-use Rattle.chains.specs.Marks.{Marking, marking-kept, walking-of, Cleared}
-use Rattle.chains.specs.SideMarks.{MarkedBelow, below-first, below-turn}
+use Rattle.chains.specs.Marks.{Marking, Cleared}
+use Rattle.chains.proofs.Marks.{marking-kept, walking-of}
+use Rattle.chains.proofs.SideMarks.{MarkedBelow, below-first, below-turn}
 use Rattle.marks.proofs.Turns.{turn-kept, turn-stamping, turn-marking, turn-stamped, sides-end}
 use Rattle.marks.proofs.mark_sides.Statement.{statement}
 use Rattle.marks.proofs.mark_sides.Tie as tie

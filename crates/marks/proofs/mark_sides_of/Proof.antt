@@ -6,7 +6,7 @@ use native.Mathlib.Omega.{arith}
 use lib.ListN.{length}
 use denote.Ref.{now}
 use Rattle.halfedges.specs.Place.{at}
-use Rattle.chains.specs.Chain.{spot}
+use Rattle.chains.proofs.Chain.{spot}
 use Rattle.chains.specs.Marks.{Marking}
 use Rattle.chains.specs.SideMarks.{MarkedOf}
 use Rattle.marks.proofs.Turns.{Sidings, sidings-first, sidings-kept, sidings-stamped, sidings-next, sidings-less}

@@ -6,8 +6,10 @@ use native.Mathlib.Omega.{arith}
 use lib.ListN.{length}
 use denote.Ref.{now}
 use Rattle.halfedges.specs.Place.{at}
-use Rattle.chains.specs.Chain.{walk, spot}
-use Rattle.chains.specs.Marks.{Walking, below-next, stampAt}
+use Rattle.chains.specs.Chain.{walk}
+use Rattle.chains.proofs.Chain.{spot}
+use Rattle.chains.specs.Marks.{Walking, stampAt}
+use Rattle.chains.proofs.Marks.{below-next}
 use Rattle.marks.proofs.Turns.{Walks, walks-first, walks-len, walks-next, walks-less}
 use Rattle.marks.proofs.stamp_around.Statement.{statement}
 use Rattle.marks.proofs.stamp_around.Tie as tie

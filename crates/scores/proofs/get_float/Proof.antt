@@ -2,7 +2,7 @@
 use Prim.Native.Nat.{_+_}
 use native.Mathlib.Omega.{arith}
 use mathlib.Core.Path.{refl}
-use Rattle.scores.specs.Words.{got, got-nan, got-number}
+use Rattle.scores.proofs.Words.{got, got-nan, got-number}
 use borrow.Author.Needs.{needs}
 use Rattle.scores.proofs.get_float.Statement.{statement}
 use Rattle.scores.proofs.get_float.Tie as tie

@@ -6,7 +6,7 @@ use lib.Ieee.{binary64}
 use lib.Ieee.Bits.{toBits-lt}
 use lib.Ieee.Compare.{differs-from-itself}
 use Rattle.float.proofs.Cases.{no-nan}
-use Rattle.scores.specs.Words.{put-nan}
+use Rattle.scores.proofs.Words.{put-nan}
 use borrow.Author.Needs.{needs}
 use Rattle.scores.proofs.put_float.Statement.{statement}
 use Rattle.scores.proofs.put_float.Tie as tie

@@ -5,7 +5,7 @@ use lib.ListN.{length}
 use denote.Ref.{now}
 use Rattle.oracle.specs.Scene.{scene}
 use Rattle.slivers.specs.Cover.{Covers}
-use Rattle.slivers.specs.Ready.{survey-of}
+use Rattle.slivers.proofs.Prepared.{survey-of}
 use Rattle.slivers.proofs.Turns.{attempt-yes, attempt-no, walks-of}
 use borrow.Author.Needs.{needs}
 use Rattle.slivers.proofs.attempt.Statement.{statement}

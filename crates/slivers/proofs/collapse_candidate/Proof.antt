@@ -7,7 +7,7 @@ use borrow.Author.Tests.{not-true, not-false}
 use lib.ListN.{length}
 use denote.Ref.{now}
 use Rattle.halfedges.specs.Place.{at, nx}
-use Rattle.chains.specs.Marks.{below-next}
+use Rattle.chains.proofs.Marks.{below-next}
 use Rattle.oracle.specs.Scene.{scene}
 use Rattle.slivers.specs.Decide.{mayAt}
 use Rattle.slivers.specs.Ready.{Way}

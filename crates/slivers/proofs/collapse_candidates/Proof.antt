@@ -7,7 +7,8 @@ use lib.ListN.{length}
 use denote.Ref.{now}
 use Rattle.halfedges.specs.Place.{at}
 use Rattle.oracle.specs.Scene.{scene}
-use Rattle.slivers.specs.Ready.{Ready, ready-kept, Passing}
+use Rattle.slivers.specs.Ready.{Ready, Passing}
+use Rattle.slivers.proofs.Prepared.{ready-kept}
 use Rattle.slivers.proofs.Turns.{passing-first, passing-turn}
 use Rattle.slivers.proofs.collapse_candidates.Statement.{statement}
 use Rattle.slivers.proofs.collapse_candidates.Tie as tie

@@ -3,7 +3,8 @@ use Prim.Native.Nat.{ℕ, _+_, _*_, _-_, _<_, _≤_}
 use mathlib.Core.Path.{_≡_, refl, subst}
 use native.Mathlib.Omega.{arith}
 use denote.Ref.{now}
-use Rattle.slivers.specs.Cover.{Lacks, Covering, cover-turn}
+use Rattle.slivers.specs.Cover.{Lacks, Covering}
+use Rattle.slivers.proofs.Covering.{cover-turn}
 use Rattle.slivers.proofs.Turns.{covers-no, covers-yes}
 use Rattle.slivers.proofs.covers.Statement.{statement}
 use Rattle.slivers.proofs.covers.Tie as tie

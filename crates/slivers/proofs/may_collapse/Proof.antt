@@ -3,7 +3,7 @@ use Prim.Native.Nat.{ℕ, _+_, _*_, _<_}
 use mathlib.Core.Path.{_∙_}
 use native.Mathlib.Omega.{arith}
 use denote.Ref.{now}
-use Rattle.chains.specs.Marks.{below-next}
+use Rattle.chains.proofs.Marks.{below-next}
 use Rattle.slivers.specs.Ready.{Ready}
 use Rattle.slivers.proofs.Turns.{may-one, may-two, may-three, may-four, may-five}
 use borrow.Author.Needs.{needs}

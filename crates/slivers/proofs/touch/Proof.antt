@@ -2,7 +2,7 @@
 use Prim.Native.Nat.{ℕ, _+_, _<_}
 use native.Mathlib.Omega.{arith}
 use denote.Ref.{now}
-use Rattle.chains.specs.Marks.{below-next, below-last}
+use Rattle.chains.proofs.Marks.{below-next, below-last}
 use Rattle.slivers.proofs.Turns.{touched-is}
 use borrow.Author.Needs.{needs}
 use Rattle.slivers.proofs.touch.Statement.{statement}

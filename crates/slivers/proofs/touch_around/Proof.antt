@@ -6,7 +6,8 @@ use native.Mathlib.Omega.{arith}
 use lib.ListN.{length}
 use denote.Ref.{now}
 use Rattle.halfedges.specs.Place.{at}
-use Rattle.chains.specs.Chain.{walk, spot}
+use Rattle.chains.specs.Chain.{walk}
+use Rattle.chains.proofs.Chain.{spot}
 use Rattle.chains.specs.Marks.{Walking}
 use Rattle.slivers.specs.Touch.{touchAt}
 use Rattle.slivers.proofs.Turns.{Touches, touches-first, touches-state, touches-next, touches-less}

@@ -2,7 +2,7 @@
 use denote.Ref.{now}
 use Rattle.oracle.specs.Scene.{scene}
 use native.Mathlib.Omega.{arith}
-use Rattle.slivers.specs.Survey.{measured-on}
+use Rattle.slivers.proofs.Survey.{measured-on}
 use Rattle.slivers.proofs.Turns.{tried-ahead, tried-behind, tried-fine, tried-low, tried-high}
 use borrow.Author.Needs.{needs}
 use Rattle.slivers.proofs.try_place.Statement.{statement}

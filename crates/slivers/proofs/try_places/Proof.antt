@@ -9,7 +9,7 @@ use lib.Ieee.{Float}
 use denote.Ref.{now}
 use borrow.Author.Tests.{not-true, not-false}
 use Rattle.halfedges.specs.Place.{at}
-use Rattle.chains.specs.Chain.{spot}
+use Rattle.chains.proofs.Chain.{spot}
 use Rattle.oracle.specs.Scene.{Scene, scene}
 use Rattle.slivers.specs.Ready.{Tried}
 use Rattle.slivers.specs.Trials.{Trials}

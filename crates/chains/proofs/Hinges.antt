@@ -1,19 +1,19 @@
 -- The hinge of a side of a closed list, by the place of the side and its twin.
-use Prim.Native.Nat.{ℕ, zero, suc, _+_, _*_, _/_, _%_, _<_, _≤_}
+use Prim.Native.Nat.{ℕ, _/_, _%_, _<_}
 use native.Mathlib.Omega.{arith}
-use mathlib.Core.Path.{_≡_, refl, sym, ap, _∙_, subst}
+use mathlib.Core.Path.{_≡_, refl, sym, ap, _∙_}
 use mathlib.Core.Logic.{_⊎_, inl, inr}
 use mathlib.Core.List.{List}
 use lib.ListN.{length}
-use Rattle.surface.specs.Triangle.{Tri, tri, triangles}
+use Rattle.surface.specs.Triangle.{tri, triangles}
 use Rattle.surface.specs.Closed.{sides, Closed}
 use Rattle.surface.specs.Edit.{Hinge, hinge, place}
 use Rattle.surface.proofs.Bridge.{closed-surface}
 use Rattle.surface.proofs.Hinged.{Hinged, hinged}
 use Rattle.halfedges.specs.Place.{nx, pv, at}
 use Rattle.sides.specs.Side.{Twin, Met}
-use Rattle.sides.specs.Met.{met-of}
-use Rattle.chains.specs.Flat.{triangle-low, runs-side, Spot, reads-spot}
+use Rattle.sides.proofs.Meeting.{met-of}
+use Rattle.chains.proofs.Flat.{runs-side, reads-spot}
 
 abbrev pub hingeAt : ℕ → ℕ → ℕ → ℕ → ℕ → ℕ → Hinge
 hingeAt i j x y z t = record { p1 = i; p2 = j; u = x; v = y; c = z; d = t }

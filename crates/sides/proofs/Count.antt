@@ -12,7 +12,7 @@ use Rattle.surface.specs.Closed.{one}
 use Rattle.halfedges.specs.Place.{nx, at, lastIf}
 use Rattle.halfedges.proofs.Turns.{same-or}
 use Rattle.sides.specs.Side.{Met, find, gate, edge, add, row, rows, sorted}
-use Rattle.sides.specs.Edge.{find-is, find-some, and-true, true-and}
+use Rattle.sides.proofs.Edge.{find-is, find-some, and-true, true-and}
 
 -- the sum of f over the d numbers from b on
 abbrev pub total : (ℕ → ℕ) → ℕ → ℕ → ℕ

@@ -8,7 +8,7 @@ use lib.ListN.{length}
 use Rattle.halfedges.specs.Place.{nx, at}
 use Rattle.halfedges.proofs.Fine.{apart-cases}
 use Rattle.sides.specs.Side.{Twin, Met, find}
-use Rattle.sides.specs.Edge.{find-is, find-some}
+use Rattle.sides.proofs.Edge.{find-is, find-some}
 use Rattle.sides.specs.Order.{Upward}
 
 pub twin-one : (c : List ℕ) (k s t : ℕ) → Met c → Twin c k s → Twin c k t → s ≡ t
