@@ -1,4 +1,5 @@
 // `validate`: whether a surface is closed and encloses a volume, its smallest quality and that volume.
+use halfedges::wide;
 ghost use mathlib.Core.Path.{_≡_};
 ghost use mathlib.Core.List.{[], _∷_};
 ghost use Prim.Native.Nat.{_+_, _/_, _<_};
@@ -48,12 +49,6 @@ fn triangle(corners: &[u32], at: usize) -> [u32; 3]
     ensures { λ r. ⌜ r ≡ getD (now (corners .entry)) at 0 ∷ getD (now (corners .entry)) (at + 1) 0 ∷ getD (now (corners .entry)) (at + 2) 0 ∷ [] ⌝ }
 {
     [corners[at], corners[at + 1], corners[at + 2]]
-}
-
-fn wide(x: u32) -> usize
-    ensures { λ r. ⌜ r ≡ x ⌝ }
-{
-    x as usize
 }
 
 // Whether a corner of the triangle is not below n.

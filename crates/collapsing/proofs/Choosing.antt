@@ -7,7 +7,6 @@ use mathlib.Core.Bool.{Bool, true, false, cond}
 use mathlib.Core.List.{List, _∷_, map}
 use lib.Dec.{T, le→leb}
 use lib.ListN.{length}
-use lib.Seq.{ext-getD}
 use lib.IntN.{pos}
 use lib.Ieee as Ieee
 use lib.Ieee.{Float, binary64, inFloat}
@@ -20,9 +19,8 @@ use Rattle.sides.specs.Side.{Twin, sorted}
 use Rattle.sides.proofs.Order.{among-at}
 use Rattle.sorting.specs.Stable as Stable
 use Rattle.sorting.specs.Stable.{part, keyOf, keysIn, SortAsks, Sorts}
-use Rattle.sorting.proofs.Parts.{part-length}
+use Rattle.sorting.proofs.Parts.{part-at, part-kept, part-length}
 use Rattle.sorting.proofs.Facts.{sorted-at}
-use Rattle.sorting.proofs.Tallying.{getD-in-part}
 use Rattle.oracle.specs.Number.{shortPart}
 use Rattle.oracle.specs.Scene.{scene}
 use Rattle.oracle.specs.Rising.{rising}
@@ -32,13 +30,6 @@ use Rattle.scores.specs.Measures.{pairOf, weakAt, sideAt, picks, upFrom, Filled
 use Rattle.scores.proofs.Candidates.{limit-is, tests-are, candidates-are}
 use Rattle.collapsing.specs.Areas.{sidesFrom, weakFrom, keysFrom, itemsFrom, spareFrom}
 use Rattle.collapsing.specs.Noting.{Collapsible, Noted, Chosen}
-
--- a part below words that stay
-part-kept : (w w′ : List ℕ) (b n : ℕ) → length w′ ≡ length w → b + n ≤ length w → ((j : ℕ) → j < b + n → at w′ j ≡ at w j) → part w′ b n ≡ part w b n
-part-kept w w′ b n e l u =
-    let x = part-length w b n l in
-    let y = part-length w′ b n (omega arith) in
-    ext-getD 0 (part w′ b n) (part w b n) (omega arith) (λ i o. getD-in-part w′ b n i (omega arith) ∙ u (b + i) (omega arith) ∙ sym (getD-in-part w b n i (omega arith)))
 
 -- numbers that are chosen of the d from o on
 chosen-low : (f : ℕ → Bool) (o d i : ℕ) → i < length (chosen f (upFrom o d)) → at (chosen f (upFrom o d)) i < o + d
@@ -69,7 +60,7 @@ module _ (ps qs : List Float) (ns c ls : List ℕ) (p r : ℕ) (w : List ℕ) (h
   many = let room = h .room in let half = n .half in sym (ap length (n .listed)) ∙ part-length w (sidesFrom c p) r (omega arith)
 
   place-is : (i : ℕ) → i < length (sorted c p) → at w (sidesFrom c p + i) ≡ at (sorted c p) i
-  place-is i l = let e = many in sym (getD-in-part w (sidesFrom c p) r i (omega arith)) ∙ ap (λ (x : List ℕ). at x i) (n .listed)
+  place-is i l = let e = many in sym (part-at w (sidesFrom c p) r i (omega arith)) ∙ ap (λ (x : List ℕ). at x i) (n .listed)
 
   place-low : (i : ℕ) → i < r → at w (sidesFrom c p + i) < length c
   place-low i l =
@@ -175,7 +166,7 @@ module _ (ps qs : List Float) (ns c ls : List ℕ) (p r : ℕ) (w : List ℕ) (h
                   (z .result ∙ ap (λ (l : List ℕ). Stable.sorted key l) (k .list ∙ ap (λ (q : ℕ). chosen test (upFrom 0 q)) (sym many)));
               few = k .few;
               low = λ j l.
-                  subst (λ (y : ℕ). y < r) (ap (λ (l : List ℕ). at l j) (sym (z .result)) ∙ getD-in-part w₄ (itemsFrom c p) x j l)
+                  subst (λ (y : ℕ). y < r) (ap (λ (l : List ℕ). at l j) (sym (z .result)) ∙ part-at w₄ (itemsFrom c p) x j l)
                   (sorted-at key (λ (y : ℕ). y < r) (part w₃ (itemsFrom c p) x) low j (omega arith));
               under = λ j l. z .rest j (inl (omega arith)) (inl (omega arith)) ∙ k .under j (omega arith) ∙ stays j l;
             }

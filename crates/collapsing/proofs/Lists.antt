@@ -12,8 +12,7 @@ use Rattle.sides.specs.Side.{Twin, sides-from}
 use Rattle.sides.specs.Whole.{Listed}
 use Rattle.sides.specs.Valence.{Valued}
 use Rattle.sorting.specs.Stable.{part}
-use Rattle.sorting.proofs.Parts.{part-length}
-use Rattle.sorting.proofs.Tallying.{getD-in-part}
+use Rattle.sorting.proofs.Parts.{part-at, part-length}
 use Rattle.chains.specs.Marks.{Lists, Marking}
 use Rattle.chains.proofs.Marks.{marking-kept}
 use Rattle.chains.specs.Clear.{ChainedAt}
@@ -87,7 +86,7 @@ module _ (c ls : List ℕ) (p : ℕ) (w : List ℕ) (lists : Lists c p) (closed 
               let n₅ = part-length w₅ (sidesFrom c p) r (omega arith) in
               let n₁ = part-length w₁ (sides-from c p) r (omega arith) in
               ext-getD 0 (part w₅ (sidesFrom c p) r) (part w₁ (sides-from c p) r) (omega arith)
-              (λ i q. getD-in-part w₅ (sidesFrom c p) r i (omega arith) ∙ same (sidesFrom c p + i) (omega arith) (omega arith) ∙ ap (λ (j : ℕ). at w₁ (j + i)) z ∙ sym (getD-in-part w₁ (sides-from c p) r i (omega arith)))
+              (λ i q. part-at w₅ (sidesFrom c p) r i (omega arith) ∙ same (sidesFrom c p + i) (omega arith) (omega arith) ∙ ap (λ (j : ℕ). at w₁ (j + i)) z ∙ sym (part-at w₁ (sides-from c p) r i (omega arith)))
               ∙ l .sides;
           half = l .half;
           order = l .order;

@@ -5,8 +5,7 @@ use mathlib.Core.Path.{_≡_, refl, sym, ap, ap₂, _∙_, subst}
 use mathlib.Core.Bool.{Bool, true, false, not}
 use mathlib.Core.List.{List, [], _∷_, _++_, map, map-append}
 use lib.Dec.{eqb}
-use lib.ListN.{length, getD, length-map, take, drop, length-drop}
-use lib.Seq.{take-suc, getD-drop, getD-take}
+use lib.ListN.{length, getD, length-map}
 use lib.Ieee.{Float}
 use Rattle.surface.specs.Triangle.{Tri, tri, triangles}
 use Rattle.surface.specs.Edit.{place}
@@ -16,7 +15,7 @@ use Rattle.sides.specs.Side.{Twin, sorted}
 use Rattle.sides.specs.Order.{Upward}
 use Rattle.sides.proofs.Order.{among-at}
 use Rattle.sorting.specs.Stable.{part}
-use Rattle.sorting.proofs.Parts.{part-length}
+use Rattle.sorting.proofs.Parts.{part-at, part-length, part-more}
 use Rattle.chains.proofs.Flat.{thirds-length}
 use Rattle.chains.specs.Marks.{Lists, Cleared}
 use Rattle.rounds.specs.Renumber.{renumber, renumbered}
@@ -79,9 +78,6 @@ stands-first c ls p touched w w′ h size e = record {
 
 -- ---- the candidates in their order
 
-part-more : (w : List ℕ) (b n : ℕ) → b + n < length w → part w b (suc n) ≡ part w b n ++ (at w (b + n) ∷ [])
-part-more w b n l = take-suc (drop b w) n 0 (omega (arith, length-drop b w)) ∙ ap (λ (x : ℕ). take n (drop b w) ++ (x ∷ [])) (getD-drop b w n 0)
-
 in-order : (c : List ℕ) (f : ℕ → Side) (v w : List ℕ) (sides items n : ℕ) → items + n ≤ length v → ((j : ℕ) → j < n → sideAt c (at w (sides + at w (items + j))) ≡ f (at v (items + j))) → candidatesIn c w sides items n ≡ map f (part v items n)
 unfolding candidatesIn
 in-order c f v w sides items zero room h = refl
@@ -132,7 +128,7 @@ module _ (ps : List Float) (c ls : List ℕ) (p : ℕ) (w : List ℕ) (h : Colla
   listed : (i : ℕ) → i < r → at w₁ (sidesFrom c p + i) < length c
   listed i l =
       let size : length (sorted c p) ≡ r = ap length (sym (noted .listed)) ∙ part-length w₁ (sidesFrom c p) r (omega (arith, noted .half, h .room)) in
-      let e : at (sorted c p) i ≡ at w₁ (sidesFrom c p + i) = ap (λ (x : List ℕ). at x i) (sym (noted .listed)) ∙ getD-take r (drop (sidesFrom c p) w₁) i 0 l ∙ getD-drop (sidesFrom c p) w₁ i 0 in
+      let e : at (sorted c p) i ≡ at w₁ (sidesFrom c p + i) = ap (λ (x : List ℕ). at x i) (sym (noted .listed)) ∙ part-at w₁ (sidesFrom c p) r i l in
       let u = noted .order .sound (at (sorted c p) i) (among-at (sorted c p) i (omega arith)) in
       let m = u .low in
       omega arith

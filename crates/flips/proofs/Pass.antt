@@ -7,7 +7,7 @@ use mathlib.Core.Bool.{Bool, true, false, _&&_, _||_, cond}
 use mathlib.Core.List.{List, _∷_}
 use lib.Dec.{eqb}
 use lib.ListN.{length, set, length-set}
-use lib.Seq.{getD-set-same, getD-set-other, ext-getD}
+use lib.Seq.{getD-set-same, getD-set-other}
 use borrow.Author.Tests.{eqb-true, eqb-false}
 use Rattle.surface.specs.Triangle.{Tri, tri, triangles}
 use Rattle.surface.specs.Closed.{one, sides}
@@ -16,8 +16,6 @@ use Rattle.surface.proofs.Flat.{set-triangles}
 use Rattle.halfedges.specs.Place.{nx, pv, at}
 use Rattle.halfedges.proofs.Fine.{nx-below}
 use Rattle.sides.specs.Side.{Twin}
-use Rattle.sorting.specs.Stable.{part}
-use Rattle.sorting.proofs.Parts.{part-length}
 use Rattle.history.specs.History.{Pair}
 use Rattle.rounds.specs.Choices.{Side, mayFlip, flipStep, flipPass, flipsOf}
 use Rattle.rounds.specs.Flips.{FlipState, flipAt, flipEntry}
@@ -27,7 +25,6 @@ use Rattle.scores.specs.Measures.{scoreAt}
 use Rattle.scores.specs.Measures.{pairOf}
 use Rattle.flips.specs.declared.Quad.{Quad}
 use Rattle.flips.specs.Quads.{putTri, flipCorners, touchFour, Ready}
-use Rattle.flips.proofs.Steps.{part-at}
 use Rattle.flips.proofs.Decision.{hingeIn, Sided}
 
 -- ---- a step of the definition's pass
@@ -186,9 +183,3 @@ ready-kept s c ls p w w′ across begun kept touched e u h =
       joins = λ k l. u (across + k) (omega arith) ∙ h .joins k l ∙ ap (λ (m : ℕ). sides (triangles c) (at c k) (at c (pv m))) (sym (u (p * 3 + length c + nx k) (let n = nx-below (length c) k (h .thirds) l in omega arith)));
       shapes = λ i l. kept-same w w′ (kept + i * 2) (scoreAt s c ls i) e (u (kept + i * 2) (omega arith)) (u (kept + i * 2 + 1) (omega arith)) (h .shapes i l);
     }
-
-pub part-kept : (w w′ : List ℕ) (b n t : ℕ) → length w′ ≡ length w → ((j : ℕ) → j < t → at w′ j ≡ at w j) → b + n ≤ t → t ≤ length w → part w′ b n ≡ part w b n
-part-kept w w′ b n t e u l m =
-    let x = part-length w b n (omega arith) in
-    let y = part-length w′ b n (omega arith) in
-    ext-getD 0 (part w′ b n) (part w b n) (omega arith) (λ i o. part-at w′ b n i (omega arith) ∙ u (b + i) (omega arith) ∙ sym (part-at w b n i (omega arith)))

@@ -15,7 +15,7 @@ use Rattle.sides.specs.Whole.{Handed, Listed}
 use Rattle.sides.specs.Valence.{Valued}
 use Rattle.sides.proofs.Order.{among-at}
 use Rattle.sorting.specs.Stable.{part}
-use Rattle.sorting.proofs.Parts.{part-length}
+use Rattle.sorting.proofs.Parts.{part-at, part-kept, part-length}
 use Rattle.chains.specs.Chain.{Chained}
 use Rattle.chains.specs.Marks.{Lists, Marking, Cleared}
 use Rattle.chains.specs.Clear.{ChainedAt}
@@ -31,8 +31,6 @@ use Rattle.scores.specs.Measures.{scoreAt, sideAt, Filled}
 use Rattle.scores.specs.Measures.{pairOf}
 use Rattle.scores.proofs.Rises.{rising-is}
 use Rattle.flips.specs.Quads.{Ready, Standing, Shaped, Passed}
-use Rattle.flips.proofs.Steps.{part-at}
-use Rattle.flips.proofs.Pass.{part-kept}
 use Rattle.flips.specs.Whole.{sidesFrom, chainsFrom, acrossFrom, Noted, Begun, Flippable, Flipped}
 
 -- ---- mark_list
@@ -165,7 +163,7 @@ module _ (ps qs : List Float) (ns c ls w : List ℕ) (h : Flippable ps c ls w) w
 
     -- the sides are still there
     pub pass-sides : part w₂ (sidesFrom c (length ps / 3)) r ≡ sorted c (length ps / 3)
-    pass-sides = let room = h .room in let half = n .half in part-kept w₁ w₂ (sidesFrom c (length ps / 3)) r begun e₂ (b .under) (omega arith) (omega arith) ∙ n .listed
+    pass-sides = let room = h .room in let half = n .half in part-kept w₁ w₂ (sidesFrom c (length ps / 3)) r e₂ (omega arith) (λ j o. b .under j (omega arith)) ∙ n .listed
 
     pub pass-standing : Standing c w₂ (sidesFrom c (length ps / 3)) r begun touched
     pass-standing =

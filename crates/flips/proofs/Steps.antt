@@ -5,8 +5,7 @@ use mathlib.Core.Path.{_≡_, refl, sym, ap, ap₂, _∙_, subst}
 use mathlib.Core.Bool.{Bool, true, false, not, _&&_, _||_, cond, false≢true}
 use mathlib.Core.List.{List}
 use lib.Dec.{T, eqb, ltb}
-use lib.ListN.{length, getD, set, drop}
-use lib.Seq.{getD-take, getD-drop}
+use lib.ListN.{length, getD, set}
 use lib.Ieee as Ieee
 use lib.Ieee.{Float, inf, binary64, ofBits, nanBits, isNan}
 use borrow.Author.Tests.{eq-eqb, ne-eqb, lt-ltb, le-ltb}
@@ -21,16 +20,12 @@ use Rattle.sides.specs.Side.{Twin}
 use Rattle.sorting.specs.Stable.{part}
 use Rattle.oracle.specs.Number.{gainLeast, shapeEnough}
 use Rattle.oracle.specs.Scene.{Scene, score}
-use Rattle.sorting.proofs.Parts.{part-length}
+use Rattle.sorting.proofs.Parts.{part-at, part-length}
 use Rattle.scores.specs.Words.{floatAt, Held}
 use Rattle.scores.proofs.Words.{held}
 use Rattle.scores.specs.Measures.{scoreAt}
 use Rattle.flips.specs.declared.Quad.{Quad}
 use Rattle.flips.specs.Quads.{quadOf, quadAt, begunAt, touches, evensAt, beforeAt, firstOf, gainsOf, improvesAt, decides, putTri, flipCorners, touchFour, quadIn, decidesAt, Tried, Ready, Within}
-
--- a word of a part
-pub part-at : (w : List ℕ) (b n i : ℕ) → i < n → at (part w b n) i ≡ at w (b + i)
-part-at w b n i l = getD-take n (drop b w) i 0 l ∙ getD-drop b w i 0
 
 pub pv-room : (n k : ℕ) → n % 3 ≡ 0 → k < n → pv k < n
 pv-room n k h l = pv-below n k h l

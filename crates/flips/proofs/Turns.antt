@@ -15,7 +15,7 @@ use Rattle.surface.specs.Closed.{one}
 use Rattle.halfedges.specs.Place.{nx, at}
 use Rattle.halfedges.proofs.Turns.{same-or}
 use Rattle.sorting.specs.Stable.{part}
-use Rattle.sorting.proofs.Parts.{part-cons, part-none}
+use Rattle.sorting.proofs.Parts.{part-cons, part-kept, part-none}
 use Rattle.rounds.specs.Choices.{Side, flipStep, flipStart, flipPass, flipsOf}
 use Rattle.rounds.specs.Flips.{FlipState}
 use Rattle.oracle.specs.Scene.{Scene, score}
@@ -27,7 +27,7 @@ use Rattle.scores.specs.Measures.{pairOf}
 use Rattle.flips.specs.declared.Quad.{Quad}
 use Rattle.flips.specs.Quads.{quadAt, quadIn, decidesAt, flipCorners, touchFour, Tried, Ready, Shaped, Standing, Passed}
 use Rattle.flips.proofs.Decision.{Sided, sided, decision-same}
-use Rattle.flips.proofs.Pass.{decided, stepOf, pass-next, count-next, Matches, flip-matches, flip-length, touch-length, touch-under, ready-kept, part-kept}
+use Rattle.flips.proofs.Pass.{decided, stepOf, pass-next, count-next, Matches, flip-matches, flip-length, touch-length, touch-under, ready-kept}
 
 -- ---- the shapes are kept
 
@@ -101,7 +101,7 @@ module _ (s : Scene) (c ls : List ℕ) (p : ℕ) (w : List ℕ) (across begun ke
       let h4 = h .fourth in
       let hr = h .room in
       let e = I .corners in
-      part-kept w w₁ begun (length c₁) touched (I .size) (I .under) (omega arith) (omega arith) ∙ ap (part w begun) (I .corners) ∙ g .begins
+      part-kept w w₁ begun (length c₁) (I .size) (omega arith) (λ j o. I .under j (omega arith)) ∙ ap (part w begun) (I .corners) ∙ g .begins
 
   pub flip-ready : Ready s (part w₁ begun (length c₁)) ls p w₁ across begun kept touched
   flip-ready = subst (λ (x : List ℕ). Ready s x ls p w₁ across begun kept touched) (sym flip-begun) (ready-kept s c ls p w w₁ across begun kept touched (I .size) (I .under) h)

@@ -16,6 +16,7 @@ use Rattle.history.specs.Lists.{thenZero}
 use Rattle.rounds.specs.Pass.{State, retain, result}
 use Rattle.rounds.specs.Renumber.{renumber, renumbered}
 use Rattle.rounds.specs.Choices.{collapseStart}
+use Rattle.rounds.proofs.Elements.{map-place}
 use Rattle.oracle.specs.Scene.{scene}
 use Rattle.oracle.specs.Candidates.{candidates}
 use Rattle.oracle.specs.Slivers.{pass}
@@ -58,11 +59,6 @@ corners-low p (t ∷ ts) f zero l = f 0 (omega arith) .a
 corners-low p (t ∷ ts) f (suc zero) l = f 0 (omega arith) .b
 corners-low p (t ∷ ts) f (suc (suc zero)) l = f 0 (omega arith) .c
 corners-low p (t ∷ ts) f (suc (suc (suc k))) l = corners-low p ts (λ i o. f (suc i) (omega arith)) k (omega arith)
-
-map-place : (f : Tri → Tri) (l : List Tri) (i : ℕ) → i < length l → place (map f l) i ≡ f (place l i)
-map-place f [] i h = absurd (omega arith)
-map-place f (t ∷ l) zero h = refl
-map-place f (t ∷ l) (suc i) h = map-place f l i (omega arith)
 
 pub collapsible-of : {ps : List Float} {c ls w : List ℕ} → Improvable ps c ls w → Collapsible ps c ls (length ps / 3) w
 collapsible-of {ps} h = record {

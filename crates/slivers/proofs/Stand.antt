@@ -6,7 +6,7 @@ use mathlib.Core.Logic.{_⊎_, inl, inr}
 use mathlib.Core.Bool.{Bool, true, false, not, _&&_, _||_, cond, false≢true}
 use mathlib.Core.List.{List, [], _∷_, map}
 use lib.Dec.{eqb}
-use lib.ListN.{length, set, length-set}
+use lib.ListN.{length, set, length-set, length-map}
 use lib.Seq.{getD-set-same, getD-set-other, ext-getD}
 use borrow.Author.Tests.{eqb-true, eqb-false, eq-eqb, ne-eqb}
 use Rattle.surface.specs.Triangle.{Tri, tri, triangles, names, runs}
@@ -19,7 +19,7 @@ use Rattle.surface.proofs.Hinged.{has-either}
 use Rattle.rounds.specs.Pass.{near, moved, State}
 use Rattle.rounds.specs.Renumber.{renumber, renumbered}
 use Rattle.rounds.specs.Choices.{collapseStep}
-use Rattle.rounds.proofs.Elements.{moved-place, moved-length, marked-place, marked-length}
+use Rattle.rounds.proofs.Elements.{map-place, moved-place, moved-length, marked-place, marked-length}
 use Rattle.halfedges.specs.Place.{nx, at}
 use Rattle.halfedges.proofs.Turns.{same-or}
 use Rattle.sides.specs.Side.{Twin, Met}
@@ -33,17 +33,6 @@ use Rattle.slivers.specs.Trials.{triOf}
 use Rattle.slivers.specs.Touch.{isTouched}
 use Rattle.slivers.proofs.Touching.{nearTo, Touching, near-places, by-near}
 use Rattle.slivers.specs.Stand.{pairOf, Stands}
-
--- ---- elements of the lists
-
-map-length : {A B : Type 0} (f : A → B) (l : List A) → length (map f l) ≡ length l
-map-length f [] = refl
-map-length f (x ∷ l) = ap suc (map-length f l)
-
-map-place : (f : Tri → Tri) (l : List Tri) (i : ℕ) → i < length l → place (map f l) i ≡ f (place l i)
-map-place f [] i h = absurd (omega arith)
-map-place f (t ∷ l) zero h = refl
-map-place f (t ∷ l) (suc i) h = map-place f l i (omega arith)
 
 -- ---- a collapse that keeps a and removes b
 
@@ -275,8 +264,8 @@ module _ (c ls : List ℕ) (n p touched : ℕ) (h : Lists c p) (cl : Closed (tri
 
       tris-now : moved a b (triangles c) (renumbered (becomes w (touched + p)) (triangles c)) ≡ renumbered (becomes w₅ (touched + p)) (triangles c)
       tris-now =
-          let e : length (renumbered (becomes w (touched + p)) (triangles c)) ≡ length (triangles c) = map-length (renumber (becomes w (touched + p))) (triangles c) in
-          let e₅ : length (renumbered (becomes w₅ (touched + p)) (triangles c)) ≡ length (triangles c) = map-length (renumber (becomes w₅ (touched + p))) (triangles c) in
+          let e : length (renumbered (becomes w (touched + p)) (triangles c)) ≡ length (triangles c) = length-map (triangles c) (renumber (becomes w (touched + p))) in
+          let e₅ : length (renumbered (becomes w₅ (touched + p)) (triangles c)) ≡ length (triangles c) = length-map (triangles c) (renumber (becomes w₅ (touched + p))) in
           let m = moved-length a b (triangles c) (renumbered (becomes w (touched + p)) (triangles c)) e in
           ext-getD (tri 0 0 0) (moved a b (triangles c) (renumbered (becomes w (touched + p)) (triangles c))) (renumbered (becomes w₅ (touched + p)) (triangles c)) (m ∙ sym e₅)
           (λ i o.
