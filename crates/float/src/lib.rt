@@ -10,8 +10,8 @@ ghost use Rattle.float.specs.Root.{root, rootUnits, nearestRoot};
 ghost use Rattle.float.specs.Order.{lesser, greater, within, isFinite};
 ghost use Rattle.float.specs.Point.{difference, dotted, crossed, normed};
 
-// The digit recurrence of the square root, a digit a call. `root` is the root of the digits of the
-// radicand taken so far, cut to a whole number, and `rest` is what its square leaves of them. A call
+// The digit recurrence of the square root, a digit a turn. `root` is the root of the digits of the
+// radicand taken so far, cut to a whole number, and `rest` is what its square leaves of them. A turn
 // brings down the next two bits of the radicand, the top two of `bits`, and after those zeros. The
 // next digit is 1 where 4 * root + 1 goes into that. With no digit left, the root is rounded: the
 // digit after the last would be 1 exactly where the remainder is more than the root, and then the
@@ -20,16 +20,20 @@ fn digits(left: u64, root: u64, rest: u64, bits: u64) -> u64
     requires { ⌜ (left ≤ 53) × (root < 2 ^ (53 - left)) × (rest ≤ 2 * root) ⌝ }
     ensures { λ r. ⌜ r ≡ recurrence left root rest bits ⌝ }
 {
-    if left == 0 {
-        if rest <= root {
-            return root;
-        }
-        return root + 1;
+    let mut left = left;
+    let mut root = root;
+    let mut rest = rest;
+    let mut bits = bits;
+    while left > 0 {
+        let next = rest * 4 + (bits >> 62);
+        let trial = root * 4 + 1;
+        let digit = (trial <= next) as u64;
+        left -= 1;
+        root = root * 2 + digit;
+        rest = next - trial * digit;
+        bits = bits << 2;
     }
-    let next = rest * 4 + (bits >> 62);
-    let trial = root * 4 + 1;
-    let digit = (trial <= next) as u64;
-    digits(left - 1, root * 2 + digit, next - trial * digit, bits << 2)
+    if rest <= root { root } else { root + 1 }
 }
 
 // The whole number nearest to the root of wide * 2^52, which has 53 digits of base 4.
