@@ -16,14 +16,10 @@ ghost use Rattle.float.specs.Point.{difference, dotted, crossed, normed}
 // next digit is 1 where 4 * root + 1 goes into that. With no digit left, the root is rounded: the
 // digit after the last would be 1 exactly where the remainder is more than the root, and then the
 // exact root is above the midpoint. It is never at it.
-fn digits(left: u64, root: u64, rest: u64, bits: u64) -> u64
+fn digits(mut left: u64, mut root: u64, mut rest: u64, mut bits: u64) -> u64
     requires { ⌜ (left ≤ 53) × (root < 2 ^ (53 - left)) × (rest ≤ 2 * root) ⌝ }
     ensures { λ r. ⌜ r ≡ recurrence left root rest bits ⌝ }
 {
-    let mut left = left;
-    let mut root = root;
-    let mut rest = rest;
-    let mut bits = bits;
     while left > 0 {
         let next = rest * 4 + (bits >> 62);
         let trial = root * 4 + 1;

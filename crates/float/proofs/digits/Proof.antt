@@ -22,10 +22,10 @@ record Going (n l r s b : ℕ) : Type 0 where
   same : recurrence l r s b ≡ n
 
 abbrev Inv-loop : tie.InvT-loop
-Inv-loop left root rest bits left₀ root₀ rest₀ bits₀ left' root' rest' bits' = Going (recurrence left root rest bits) left' root' rest' bits'
+Inv-loop left₀ root₀ rest₀ bits₀ left root rest bits = Going (recurrence left₀ root₀ rest₀ bits₀) left root rest bits
 
 abbrev μ-loop : tie.MeasureT-loop
-μ-loop left root rest bits left₀ root₀ rest₀ bits₀ left' root' rest' bits' = left'
+μ-loop left₀ root₀ rest₀ bits₀ left root rest bits = left
 
 module _ {n l r s b : ℕ} (g : Going n l r s b) where
   fits : r < 2 ^ 53

@@ -1,0 +1,32 @@
+//! Links the root of an earlier liblanovishel.a, which `LANOVISHEL_BEFORE` names, beside ours:
+//! its `lanovishel_sqrt` is called `sqrt_before`, and its other names are its own. Where none is
+//! named, the cfg `before` is not set.
+use std::{
+    env,
+    path::{Path, PathBuf},
+    process::Command,
+};
+
+fn main() {
+    println!("cargo::rustc-check-cfg=cfg(before)");
+    println!("cargo::rerun-if-env-changed=LANOVISHEL_BEFORE");
+    if let Some(archive) = env::var_os("LANOVISHEL_BEFORE") {
+        let archive = PathBuf::from(archive);
+        println!("cargo::rerun-if-changed={}", archive.display());
+        let folder = PathBuf::from(env::var_os("OUT_DIR").unwrap());
+        rename(&archive, &folder.join("libbefore.a"));
+        println!("cargo::rustc-link-search=native={}", folder.display());
+        println!("cargo::rustc-link-lib=static=before");
+        println!("cargo::rustc-cfg=before");
+    }
+}
+
+fn rename(archive: &Path, renamed: &Path) {
+    let status = Command::new("objcopy")
+        .arg("--redefine-sym=lanovishel_sqrt=sqrt_before")
+        .arg("--keep-global-symbol=sqrt_before")
+        .args([archive, renamed])
+        .status()
+        .expect("objcopy is on the path");
+    assert!(status.success(), "objcopy {}", archive.display());
+}
