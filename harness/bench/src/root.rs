@@ -9,7 +9,6 @@ unsafe extern "C" {
     safe fn sqrt_before(x: f64) -> f64;
 }
 
-/// The roots of a thousand numbers: a microsecond for all is a nanosecond for each.
 pub fn table() {
     beside("hardware, ns", f64::sqrt);
     #[cfg(before)]
@@ -19,6 +18,7 @@ pub fn table() {
     }
 }
 
+/// The roots of a thousand numbers: a microsecond for all is a nanosecond for each.
 fn beside(theirs: &str, their_root: impl Fn(f64) -> f64) {
     let mut random = Random::new(1);
     let any: Vec<f64> = (0..1000)
