@@ -27,16 +27,18 @@ Inv-loop left₀ root₀ rest₀ bits₀ left root rest bits = Going (recurrence
 abbrev μ-loop : tie.MeasureT-loop
 μ-loop left₀ root₀ rest₀ bits₀ left root rest bits = left
 
+-- the digit of a turn, as the code has it
+abbrev digit : ℕ → ℕ → ℕ → ℕ
+digit r s b = boolByte (leb (r * 4 + 1) (s * 4 + b / 2 ^ 62))
+
 module _ {n l r s b : ℕ} (g : Going n l r s b) where
   fits : r < 2 ^ 53
   fits = root-small 53 l (g .short)
 
-  stepped : Step (r * r + s) r s (b / 2 ^ 62) (boolByte (leb (r * 4 + 1) (s * 4 + b / 2 ^ 62)))
+  stepped : Step (r * r + s) r s (b / 2 ^ 62) (digit r s b)
   stepped = step (b / 2 ^ 62) (omega (arith, g .word)) (record { whole = refl; small = g .small })
 
-  -- the next digit, as the code has it
-  turned : 0 < l
-      → Going n (l - 1) (r * 2 + boolByte (leb (r * 4 + 1) (s * 4 + b / 2 ^ 62))) (s * 4 + b / 2 ^ 62 - (r * 4 + 1) * boolByte (leb (r * 4 + 1) (s * 4 + b / 2 ^ 62))) (b * 2 ^ 2 % 2 ^ 64)
+  turned : 0 < l → Going n (l - 1) (r * 2 + digit r s b) (s * 4 + b / 2 ^ 62 - (r * 4 + 1) * digit r s b) (b * 2 ^ 2 % 2 ^ 64)
   turned p = record {
     most = omega (arith, g .most);
     short = omega (arith, root-grows 53 l r (g .most) p (g .short), stepped .bit);
