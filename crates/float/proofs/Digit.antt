@@ -1,7 +1,7 @@
 -- One digit of the square root, for numbers of any size: from √n cut to a whole number r, with s = n - r ^ 2, the same of 4 * n + d, for a digit d of base 4.
 -- The new root is 2 * r or 2 * r + 1, by one comparison. Assumes nothing.
 use mathlib.Core.Path.{_≡_, sym, ap, _∙_, subst}
-use Prim.Native.Nat.{ℕ, zero, suc, _+_, _-_, _*_, _/_, _%_, _^_, _≤_, _<_}
+use Prim.Native.Nat.{ℕ, suc, _+_, _-_, _*_, _^_, _≤_, _<_}
 use native.Mathlib.Nat.{add-zero, add-mul, mul-add, mul-mul-mul-comm, pow-succ', mul-one, lt-of-lt-of-le, sub-le}
 use native.Mathlib.Omega.{arith}
 use lib.Pow.{pow-mono}

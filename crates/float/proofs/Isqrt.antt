@@ -150,13 +150,6 @@ floor-ge {n} {r} a h l = go (sq-lt-back a (r + 1) (lt-of-le-of-lt l (h .high)))
 pub floor-lt : {n r : ℕ} (a : ℕ) → Floor n r → n < a * a → r < a
 floor-lt {n} {r} a h l = sq-lt-back r a (lt-of-le-of-lt (h .low) l)
 
--- at most c * (c + 1), n rounds to c at most
-pub no-carry : (c n r s : ℕ) → Rooted n r s → r < s → n ≤ c * (c + 1) → r < c
-no-carry c n r s h l m = lt-of-not-le (λ (g : c ≤ r). no g (sq-le g))
-  where
-    no : c ≤ r → c * c ≤ r * r → ⊥
-    no g k = omega (arith, mul-add c c 1)
-
 -- ---- the root of any n, with what it leaves
 
 pub isqrt-rooted : (n : ℕ) → Rooted n (isqrt n) (n - isqrt n * isqrt n)

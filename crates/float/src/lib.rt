@@ -1,7 +1,10 @@
 // Square roots, the least and the greatest of floats, and points of space, over `f64`.
 // Each contract says what is returned in the logic's account of IEEE 754 (`lib.Ieee`), by a definition
 // of `specs/`.
+pub mod guess;
 
+use guess::guess;
+use guess::nearest_of_three;
 ghost use mathlib.Core.Path.{_≡_};
 ghost use Prim.Native.Nat.{_+_, _-_, _*_, _^_, _≤_, _<_};
 ghost use lib.Ieee.{binary64};
@@ -32,11 +35,16 @@ fn digits(mut left: u64, mut root: u64, mut rest: u64, mut bits: u64) -> u64
     if rest <= root { root } else { root + 1 }
 }
 
-// The whole number nearest to the root of wide * 2^52, which has 53 digits of base 4.
+// The whole number nearest to the root of wide * 2^52: the guess or a number beside it, where the
+// test says so, and else by its digits, of which wide * 2^52 has 53 of base 4.
 fn nearest_root(wide: u64) -> u64
     requires { ⌜ (2 ^ 52 ≤ wide) × (wide ≤ 2 ^ 54 - 2) ⌝ }
     ensures { λ r. ⌜ (r ≡ nearestRoot (wide * 2 ^ 52) 0) × (2 ^ 52 ≤ r) × (r < 2 ^ 53) ⌝ }
 {
+    let r = nearest_of_three(guess(wide), wide);
+    if r != 0 {
+        return r;
+    }
     digits(53, 0, 0, wide << 10)
 }
 
@@ -45,11 +53,7 @@ fn scaled(m: u64, k: u64) -> f64
     requires { ⌜ (2 ^ 52 ≤ m) × (m < 2 ^ 53) × (k ≤ 2100) ⌝ }
     ensures { λ r. ⌜ r ≡ rootUnits binary64 (m * 2 ^ (k + 1020)) ⌝ }
 {
-    if k % 2 == 0 {
-        f64::from_bits((k / 2 + 484) * 0x10_0000_0000_0000 + nearest_root(m))
-    } else {
-        f64::from_bits((k / 2 + 484) * 0x10_0000_0000_0000 + nearest_root(m * 2))
-    }
+    f64::from_bits((k / 2 + 484) * 0x10_0000_0000_0000 + nearest_root(m << (k % 2)))
 }
 
 // The square root: the `f64` nearest the exact root. A zero is returned as it is, the root of a NaN
