@@ -49,3 +49,39 @@ pub fn near_square(random: &mut Random) -> [u64; 7] {
     let square = (whole * whole * 4f64.powi(shift)).to_bits();
     std::array::from_fn(|i| square.wrapping_add(i as u64).wrapping_sub(3))
 }
+
+/// Every normal number just below a power of 4: the guess at its root is out of range, and the digits
+/// decide.
+pub fn below_powers_of_four() -> impl Iterator<Item = u64> {
+    (2..2047u64)
+        .step_by(2)
+        .map(|exponent| (exponent << 52) | FRACTION)
+}
+
+/// The names of what may decide a root, in the order of the program `root_ways`.
+pub const WAYS: [&str; 4] = ["guess", "above", "below", "digits"];
+
+/// Which of `WAYS` decides the root of a normal number, by the guess of `float` and the hardware's
+/// root: the guess, the number above it, the number below it, or, where it is none of them, the digits.
+pub fn way(bits: u64) -> usize {
+    let exponent = 1023 + u64::from(bits >> 52 & 1 == 0);
+    let x = f64::from_bits((exponent << 52) | bits & FRACTION);
+    let first = 0.5185546 + x * (0.5260097 - x * 0.0395401);
+    let guess = (0..3).fold(first, |y, _| 0.5 * (y + x / y));
+    let [root, guess] = [x.sqrt(), guess].map(|y| (y.to_bits() & FRACTION) as i64);
+    match root - guess {
+        0 => 0,
+        1 => 1,
+        -1 => 2,
+        _ => 3,
+    }
+}
+
+/// Marsaglia's xorshift numbers from x on, with the shifts 13, 7 and 17.
+pub fn xorshift(x: u64) -> impl Iterator<Item = u64> {
+    std::iter::successors(Some(x), |&x| {
+        let y = x ^ (x << 13);
+        let z = y ^ (y >> 7);
+        Some(z ^ (z << 17))
+    })
+}
