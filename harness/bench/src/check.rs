@@ -3,12 +3,13 @@ use crate::table::{head, means, once, row};
 use differential::{
     checking::{mesh, quality},
     random::Random,
-    surfaces::{Surface, torus},
+    surfaces::{Surface, bipyramid, sphere, torus},
 };
 
 const CALLS: u32 = 20;
 
-/// Tori, and tori listed so that the minimum falls at every triangle.
+/// Tori, and tori listed so that the minimum falls at every triangle; and of the largest size a sphere
+/// and a bipyramid, which has two corners of half the triangles each.
 pub fn table() {
     head("checking", "ours, µs", "`validate`, µs");
     for [around, across] in [[32, 32], [64, 32], [64, 64], [128, 64], [128, 128]] {
@@ -18,6 +19,8 @@ pub fn table() {
         list_by_falling_quality(&mut surface);
         measure("worst listing", &surface);
     }
+    measure("sphere", &sphere(6));
+    measure("bipyramid", &bipyramid(16_384));
 }
 
 fn measure(name: &str, surface: &Surface) {
