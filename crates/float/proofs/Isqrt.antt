@@ -2,7 +2,7 @@
 use mathlib.Core.Path.{_≡_, refl, sym, ap, _∙_, subst}
 use mathlib.Core.Bool.{Bool, true, false, not, cond}
 use Prim.Native.Nat.{ℕ, zero, suc, _+_, _-_, _*_, _/_, _^_, _≤_, _<_, compare, Ordering, Ordering·lt, Ordering·eq, Ordering·gt}
-use native.Mathlib.Nat.{add-zero, zero-add, add-assoc, mul-add, mul-assoc, mul-one, mul-le-mul, mul-le-mul-left, mul-lt-mul-of-pos-right, lt-of-lt-of-le, lt-of-le-of-lt, lt-of-not-le, not-le-of-lt, le-of-suc-le-suc, le-antisymm, le-mul-of-pos-right, two-pow-succ, mul-div-cancel, mul-pos}
+use native.Mathlib.Nat.{add-zero, zero-add, add-assoc, mul-assoc, mul-one, mul-le-mul, mul-le-mul-left, mul-lt-mul-of-pos-right, lt-of-lt-of-le, lt-of-le-of-lt, lt-of-not-le, not-le-of-lt, le-of-suc-le-suc, le-antisymm, le-mul-of-pos-right, two-pow-succ, mul-div-cancel, mul-pos}
 use native.Mathlib.Omega.{arith}
 use lib.Dec.{T, leb, isLe, isEq, leb→le, nleb→lt, eqb→eq}
 use lib.Pow.{pow-pos}
