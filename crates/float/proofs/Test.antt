@@ -5,7 +5,7 @@ use Prim.Native.Nat.{ℕ, _+_, _-_, _*_, _/_, _%_, _^_, _≤_, _<_}
 use native.Mathlib.Nat.{add-mul, mul-add, mul-comm, mul-right-comm, mul-mul-mul-comm, mul-le-mul, div-add-mod'}
 use native.Mathlib.Omega.{arith}
 use borrow.Author.Tests.{le-leb, lt-leb}
-use lib.Dec.{T, leb, leb→le, nleb→lt}
+use lib.Dec.{T, leb, ltb, leb→le, nleb→lt, ltb→lt, nltb→le}
 use mir.Val.{boolByte}
 use Rattle.float.specs.Root.{nearestRoot}
 use Rattle.float.specs.Guess.{ifBeside}
@@ -104,26 +104,26 @@ module _ (N g : ℕ) (two : 2 ≤ g) where
       over : q + g * 2 < p → g + 1 ≡ ifBeside g (nearestRoot N 0)
       over h = found (g + 1) (omega arith) (omega arith) (omega arith) (record { over = λ o. omega (arith, sq-add-one g); under = omega (arith, sq-add-one g) })
 
-      pub one-of-three : g + 1 - boolByte (leb p (q + g * 2)) - boolByte (leb p q) ≡ ifBeside g (nearestRoot N 0)
-      one-of-three = go (leb p (q + g * 2)) (leb p q) (leb→le p (q + g * 2)) (nleb→lt p (q + g * 2)) (leb→le p q) (nleb→lt p q)
+      pub one-of-three : g + boolByte (ltb (q + g * 2) p) - boolByte (leb p q) ≡ ifBeside g (nearestRoot N 0)
+      one-of-three = go (ltb (q + g * 2) p) (leb p q) (ltb→lt (q + g * 2) p) (nltb→le (q + g * 2) p) (leb→le p q) (nleb→lt p q)
         where
-          minus-two : g + 1 - 1 - 1 ≡ g - 1
-          minus-two = omega arith
+          less-one : g + 0 - 1 ≡ g - 1
+          less-one = omega arith
 
-          minus-one : g + 1 - 1 - 0 ≡ g
-          minus-one = omega arith
+          itself : g + 0 - 0 ≡ g
+          itself = omega arith
 
-          none : g + 1 - 0 - 0 ≡ g + 1
-          none = omega arith
+          one-more : g + 1 - 0 ≡ g + 1
+          one-more = omega arith
 
-          not-both : p ≤ q → q + g * 2 < p → ⊥
+          not-both : q + g * 2 < p → p ≤ q → ⊥
           not-both x y = omega arith
 
-          go : (s t : Bool) → (T s → p ≤ q + g * 2) → (T (not s) → q + g * 2 < p) → (T t → p ≤ q) → (T (not t) → q < p) → g + 1 - boolByte s - boolByte t ≡ ifBeside g (nearestRoot N 0)
-          go true true a b c d = minus-two ∙ under (c tt)
-          go true false a b c d = minus-one ∙ same (d tt) (a tt)
-          go false true a b c d = absurd (not-both (c tt) (b tt))
-          go false false a b c d = none ∙ over (b tt)
+          go : (s t : Bool) → (T s → q + g * 2 < p) → (T (not s) → p ≤ q + g * 2) → (T t → p ≤ q) → (T (not t) → q < p) → g + boolByte s - boolByte t ≡ ifBeside g (nearestRoot N 0)
+          go true true a b c d = absurd (not-both (a tt) (c tt))
+          go true false a b c d = one-more ∙ over (a tt)
+          go false true a b c d = less-one ∙ under (c tt)
+          go false false a b c d = itself ∙ same (d tt) (b tt)
 
 -- ---- the test's words: the square is h * 2 ^ 52 + l, and w * 2 ^ 52 is N
 
@@ -138,13 +138,13 @@ module _ (g w h l S : ℕ) (e : S ≡ h * 2 ^ 52 + l) where
   pub far-above : g < 2 ^ 53 → l < 2 ^ 55 → h ≤ w + 8 → 32 ≤ w + 8 - h → S + 3 * g + 2 < w * 2 ^ 52
   far-above s m k n = omega arith
 
--- two bits can be taken away
+-- a bit can be added, and another taken away
 bit : (t : Bool) → boolByte t ≤ 1
 bit true = omega arith
 bit false = omega arith
 
-pub room-one : (g : ℕ) (s : Bool) → boolByte s ≤ g + 1
-room-one g s = omega (arith, bit s)
+pub room-above : (g : ℕ) (s : Bool) → g < 2 ^ 53 → g + boolByte s < 2 ^ 64
+room-above g s h = omega (arith, bit s)
 
-pub room-two : (g : ℕ) (s t : Bool) → 2 ^ 52 ≤ g → boolByte t ≤ g + 1 - boolByte s
-room-two g s t h = omega (arith, bit s, bit t)
+pub room-below : (g : ℕ) (s t : Bool) → 2 ^ 52 ≤ g → boolByte t ≤ g + boolByte s
+room-below g s t h = omega (arith, bit t)

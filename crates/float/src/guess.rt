@@ -64,7 +64,7 @@ pub fn nearest_of_three(g: u64, wide: u64) -> u64
     if up + g * 2 <= down + 2 {
         return 0;
     }
-    let at_most = (up <= down + g * 2) as u64;
+    let above = (down + g * 2 < up) as u64;
     let below = (up <= down) as u64;
-    g + 1 - at_most - below
+    g + above - below
 }

@@ -2,9 +2,9 @@
 use Prim.Native.Nat.{ℕ, _+_, _-_, _*_, _/_, _%_, _^_, _≤_, _<_}
 use mathlib.Core.Path.{_≡_}
 use native.Mathlib.Omega.{arith}
-use lib.Dec.{leb}
+use lib.Dec.{leb, ltb}
 use borrow.Author.Needs.{needs}
-use Rattle.float.proofs.Test.{parts, square, none-above, none-below, above-all, below-all, one-of-three, words, far-below, far-above, room-one, room-two}
+use Rattle.float.proofs.Test.{parts, square, none-above, none-below, above-all, below-all, one-of-three, words, far-below, far-above, room-above, room-below}
 use Rattle.float.proofs.guess.nearest_of_three.Statement.{statement}
 use Rattle.float.proofs.guess.nearest_of_three.Tie as tie
 
@@ -112,31 +112,29 @@ returns-4 c =
     let w = b .args .wide in
     below-all (w * 2 ^ 52) g (omega arith) (up g w) (down g) (sums g w (b .pre .1) (c .before .before .before .if1 .left)) (c .if4 .taken)
 
-mul-at-most : tie.Need-mul-at-most
-mul-at-most c = search needs
+mul-above : tie.Need-mul-above
+mul-above c = search needs
 
-add-at-most : tie.Need-add-at-most
-add-at-most c = search needs
+add-above : tie.Need-add-above
+add-above c = search needs
 
-cast-at-most : tie.Need-cast-at-most
-cast-at-most c = search needs
+cast-above : tie.Need-cast-above
+cast-above c = search needs
 
 cast-below : tie.Need-cast-below
 cast-below c = search needs
 
 add-result : tie.Need-add-result
-add-result c = search needs
+add-result c =
+    let b = c .before .before .before .before in
+    let a = b .args in
+    omega (arith, room-above (a .g) (ltb (down (a .g) + a .g * 2) (up (a .g) (a .wide))) (b .pre .1))
 
 sub-result : tie.Need-sub-result
 sub-result c =
-    let a = c .before .before .before .before .args in
-    room-one (a .g) (leb (up (a .g) (a .wide)) (down (a .g) + a .g * 2))
-
-sub-result-2 : tie.Need-sub-result-2
-sub-result-2 c =
     let b = c .before .before .before .before in
     let a = b .args in
-    room-two (a .g) (leb (up (a .g) (a .wide)) (down (a .g) + a .g * 2)) (leb (up (a .g) (a .wide)) (down (a .g))) (b .pre .0)
+    room-below (a .g) (ltb (down (a .g) + a .g * 2) (up (a .g) (a .wide))) (leb (up (a .g) (a .wide)) (down (a .g))) (b .pre .0)
 
 returns-5 : tie.Need-returns-5
 returns-5 c =
@@ -172,11 +170,10 @@ nearest-of-three-spec =
     add-if4
     add-if4-2
     returns-4
-    mul-at-most
-    add-at-most
-    cast-at-most
+    mul-above
+    add-above
+    cast-above
     cast-below
     add-result
     sub-result
-    sub-result-2
     returns-5)
