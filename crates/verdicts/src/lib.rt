@@ -40,10 +40,26 @@ fn runs_to(t: [u32; 3], u: u32, v: u32) -> bool
     are(t[2], t[0], u, v)
 }
 
-// The triangle has the side of a and b, in one direction or the other.
+// The triangle names v.
+fn names_in(t: [u32; 3], v: u32) -> bool
+    ensures { λ r. ⌜ r ≡ names (triOf t) v ⌝ }
+{
+    if t[0] == v {
+        return true;
+    }
+    if t[1] == v {
+        return true;
+    }
+    t[2] == v
+}
+
+// The triangle has the side of a and b, in one direction or the other. Most triangles do not name a.
 fn has_side(t: [u32; 3], a: u32, b: u32) -> bool
     ensures { λ r. ⌜ r ≡ has a b (triOf t) ⌝ }
 {
+    if !names_in(t, a) {
+        return false;
+    }
     if runs_to(t, a, b) {
         return true;
     }
@@ -287,19 +303,6 @@ fn may_flip(corners: &[u32], n: usize, a: u32, b: u32, h: Found) -> bool
     ensures { λ r. ⌜ r ≡ flip? (held (now (corners .entry)) n) a b ⌝ }
 {
     absent(corners, n, h.c, h.d)
-}
-
-// The triangle names v.
-fn names_in(t: [u32; 3], v: u32) -> bool
-    ensures { λ r. ⌜ r ≡ names (triOf t) v ⌝ }
-{
-    if t[0] == v {
-        return true;
-    }
-    if t[1] == v {
-        return true;
-    }
-    t[2] == v
 }
 
 // The flag of a triangle's label is set, where the triangle names v.

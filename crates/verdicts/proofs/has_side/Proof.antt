@@ -1,22 +1,36 @@
+use Rattle.verdicts.proofs.Find.{no-corner}
+use Rattle.surface.specs.Flat.{triOf}
 use mathlib.Core.Path.{sym, _∙_}
+use borrow.Author.Tests.{not-true}
 use borrow.Author.Needs.{needs}
 use Rattle.verdicts.proofs.has_side.Statement.{statement}
 use Rattle.verdicts.proofs.has_side.Tie as tie
 use Rattle.verdicts.proofs.has_side.Reads as reads
 use Rattle.verdicts.proofs.has_side.Lts as lts
+use Rattle.verdicts.proofs.names_in.Reads as names-in-reads
 use Rattle.verdicts.proofs.runs_to.Reads as runs-to-reads
+
+names-in-requires : tie.Need-names-in-requires
+names-in-requires c κs = search needs
+
+returns : tie.Need-returns
+returns c =
+    let g = c .before .before .args in
+    no-corner (g .a) (g .b) (triOf (g .t)) (sym (c .before .names-in .ensures) ∙ not-true _ (c .if1 .taken))
 
 runs-to-requires : tie.Need-runs-to-requires
 runs-to-requires c κs = search needs
 
-returns : tie.Need-returns
-returns c = simp (sym (c .before .runs-to .ensures) ∙ c .if1 .taken)
+returns-2 : tie.Need-returns-2
+returns-2 c = simp (sym (c .before .runs-to .ensures) ∙ c .if2 .taken)
 
 runs-to-requires-2 : tie.Need-runs-to-requires-2
 runs-to-requires-2 c κs = search needs
 
-returns-2 : tie.Need-returns-2
-returns-2 c = simp (sym (c .before .before .runs-to .ensures) ∙ c .before .if1 .left) (c .runs-to2 .ensures)
+returns-3 : tie.Need-returns-3
+returns-3 c = simp (sym (c .before .before .runs-to .ensures) ∙ c .before .if2 .left) (c .runs-to2 .ensures)
 
 pub has-side-spec : {M : Type 1} → statement M
-has-side-spec = tie.close (tie.spec runs-to-requires returns runs-to-requires-2 returns-2)
+has-side-spec =
+    tie.close
+    (tie.spec names-in-requires returns runs-to-requires returns-2 runs-to-requires-2 returns-3)
