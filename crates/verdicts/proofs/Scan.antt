@@ -9,9 +9,10 @@ use lib.Dec.{eqb}
 use lib.ListN.{length, getD, take, drop, set, length-append}
 use lib.Seq.{drop-cons, drop-length}
 use borrow.Author.Tests.{eqb-true, eqb-false, eq-eqb, ne-eqb}
-use Rattle.surface.specs.Triangle.{Tri, tri, triangles}
+use Rattle.surface.specs.Triangle.{Tri, tri, triangles, names}
 use Rattle.surface.specs.Closed.{one, sides, Step, step, keep, around, Closed}
 use Rattle.surface.specs.Edit.{has, first, place, Hinge, hinge}
+use Rattle.surface.proofs.Bools.{none-of}
 use Rattle.surface.proofs.Hinged.{Hinged}
 use Rattle.surface.proofs.Laws.{side-exists, hinge-found}
 use Rattle.surface.specs.Check.{every}
@@ -84,6 +85,9 @@ named-law t v = omega (
   keep-length (eqb (t .c) v) (step (t .a) (t .b)) [],
 )
 
+pub unnamed : (t : Tri) (v : ℕ) → names t v ≡ false → 0 ≡ length (around (t ∷ []) v)
+unnamed t v e = sym (named-law t v ∙ none-of (eqb (t .a) v) (eqb (t .b) v) (eqb (t .c) v) e)
+
 all-keep : (f : Step → Bool) (k : Bool) (s : Step) (l : List Step) → every f (keep k s l) ≡ ((not k || f s) && every f l)
 unfolding every
 all-keep f true s l = refl
@@ -113,8 +117,13 @@ module _ (l : List ℕ) (n i v : ℕ) (p : 3 * n ≤ length l) (q : i < n) (t : 
       let h : i + 1 ≡ suc i = omega arith in
       rw (is-t, h) (around-drop (held l n) i v (omega (arith, length-held l n p)))
 
-  pub count-on : (s k w : ℕ) → s + length (around (drop i (held l n)) v) ≡ w → k ≡ length (around (triOf t ∷ []) v) → s + k + length (around (drop (i + 1) (held l n)) v) ≡ w
-  count-on s k w f g = omega (arith, ap length parts, length-append (around (triOf t ∷ []) v) (around (drop (i + 1) (held l n)) v))
+  -- the count of them: s before this triangle, k in it
+  module _ (s k w : ℕ) (f : s + length (around (drop i (held l n)) v) ≡ w) (g : k ≡ length (around (triOf t ∷ []) v)) where
+    pub count-on : s + k + length (around (drop (i + 1) (held l n)) v) ≡ w
+    count-on = omega (arith, ap length parts, length-append (around (triOf t ∷ []) v) (around (drop (i + 1) (held l n)) v))
+
+    pub count-stop : 3 < s + k → false ≡ eqb w 3
+    count-stop m = sym (ne-eqb w 3 (λ e. omega (arith, count-on)))
 
   module _ (f : Step → Bool) (w : Bool) (inv : every f (around (drop i (held l n)) v) ≡ w) (k : Bool) (g : k ≡ every f (around (triOf t ∷ []) v)) where
     both : (every f (around (triOf t ∷ []) v) && every f (around (drop (i + 1) (held l n)) v)) ≡ w
@@ -131,6 +140,11 @@ unfolding around
 drop-end l n i v p q r =
     let h : i ≡ length (held l n) = omega (arith, length-held l n p) in
     ap (λ (j : ℕ). around (drop j (held l n)) v) h ∙ ap (λ (m : List Tri). around m v) (drop-length (held l n))
+
+pub count-end : (l : List ℕ) (n i v s w : ℕ) → 3 * n ≤ length l → i ≤ n → n ≤ i → s + length (around (drop i (held l n)) v) ≡ w → eqb s 3 ≡ eqb w 3
+count-end l n i v s w p q r f =
+    let h : s ≡ w = omega (arith, ap length (drop-end l n i v p q r)) in
+    ap (λ (x : ℕ). eqb x 3) h
 
 pub apart-c : (k i j : Bool) → i ≡ true → true ≡ (k || (i || j))
 apart-c true i j e = refl
@@ -170,15 +184,15 @@ module _ (ts : List Tri) (a b : ℕ) (h : Found) (e : hingeOf h ≡ hinge ts a b
   pub collapse-common : k ≡ false → false ≡ collapse? ts a b
   collapse-common g = sym (ap (λ (j : Bool). j && not (eqb (length (around ts a)) 3 && eqb (length (around ts b)) 3)) g) ∙ by-parts
 
-  module _ (g : k ≡ true) (x : ℕ) (ex : x ≡ length (around ts a)) where
-    with-x : not (eqb x 3 && eqb (length (around ts b)) 3) ≡ collapse? ts a b
-    with-x = ap (λ (y : ℕ). not (eqb y 3 && eqb (length (around ts b)) 3)) ex ∙ sym (ap (λ (j : Bool). j && not (eqb (length (around ts a)) 3 && eqb (length (around ts b)) 3)) g) ∙ by-parts
+  module _ (g : k ≡ true) (x : Bool) (ex : x ≡ eqb (length (around ts a)) 3) where
+    with-x : not (x && eqb (length (around ts b)) 3) ≡ collapse? ts a b
+    with-x = ap (λ (y : Bool). not (y && eqb (length (around ts b)) 3)) ex ∙ sym (ap (λ (j : Bool). j && not (eqb (length (around ts a)) 3 && eqb (length (around ts b)) 3)) g) ∙ by-parts
 
-    pub collapse-many : (x ≡ 3 → ⊥) → true ≡ collapse? ts a b
-    collapse-many n = sym (ap (λ (j : Bool). not (j && eqb (length (around ts b)) 3)) (ne-eqb x 3 n)) ∙ with-x
+    pub collapse-many : x ≡ false → true ≡ collapse? ts a b
+    collapse-many n = sym (ap (λ (j : Bool). not (j && eqb (length (around ts b)) 3)) n) ∙ with-x
 
-    pub collapse-three : x ≡ 3 → (y : ℕ) → y ≡ length (around ts b) → not (eqb y 3) ≡ collapse? ts a b
-    collapse-three m y ey = ap (λ (z : ℕ). not (eqb z 3)) ey ∙ sym (ap (λ (j : Bool). not (j && eqb (length (around ts b)) 3)) (eq-eqb x 3 m)) ∙ with-x
+    pub collapse-three : x ≡ true → (y : Bool) → y ≡ eqb (length (around ts b)) 3 → not y ≡ collapse? ts a b
+    collapse-three m y ey = ap not ey ∙ sym (ap (λ (j : Bool). not (j && eqb (length (around ts b)) 3)) m) ∙ with-x
 
 pub third-of : (i j k : Bool) → i ≡ false → j ≡ false → k ≡ (i || (j || k))
 third-of i j k e f = rw (e, f)

@@ -160,25 +160,31 @@ fn one_if(k: bool) -> usize
     if k { 1 } else { 0 }
 }
 
-// How often a triangle names v.
+// How often a triangle names v. Most triangles do not.
 fn named_in(t: [u32; 3], v: u32) -> usize
     ensures { λ r. ⌜ (r ≡ length (around (triOf t ∷ []) v)) × (r ≤ 3) ⌝ }
 {
+    if !names_in(t, v) {
+        return 0;
+    }
     one_if(t[0] == v) + (one_if(t[1] == v) + one_if(t[2] == v))
 }
 
-// How many triangles there are around v.
-fn count_around(corners: &[u32], n: usize, v: u32) -> usize
+// There are three triangles around v. At a fourth the answer is known.
+fn three_around(corners: &[u32], n: usize, v: u32) -> bool
     requires { ⌜ 3 * n ≤ length (now corners) ⌝ }
-    ensures { λ r. ⌜ r ≡ length (around (held (now (corners .entry)) n) v) ⌝ }
+    ensures { λ r. ⌜ r ≡ eqb (length (around (held (now (corners .entry)) n) v)) 3 ⌝ }
 {
     let mut s: usize = 0;
     let mut i = 0;
     while i < n {
         s += named_in(triangle_at(corners, i), v);
+        if s > 3 {
+            return false;
+        }
         i += 1;
     }
-    s
+    s == 3
 }
 
 // Where a triangle names a, the corner that follows a is noted with one more than the corner after it.
@@ -291,10 +297,10 @@ fn may_collapse(corners: &[u32], n: usize, notes: &mut [u32], a: u32, b: u32, h:
     if !no_common(corners, n, notes, a, b, h.c, h.d) {
         return false;
     }
-    if count_around(corners, n, a) != 3 {
+    if !three_around(corners, n, a) {
         return true;
     }
-    count_around(corners, n, b) != 3
+    !three_around(corners, n, b)
 }
 
 // The flip makes a closed list.

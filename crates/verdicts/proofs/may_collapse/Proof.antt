@@ -6,8 +6,8 @@ use Rattle.verdicts.proofs.may_collapse.Statement.{statement}
 use Rattle.verdicts.proofs.may_collapse.Tie as tie
 use Rattle.verdicts.proofs.may_collapse.Reads as reads
 use Rattle.verdicts.proofs.may_collapse.Lts as lts
-use Rattle.verdicts.proofs.count_around.Reads as count-around-reads
 use Rattle.verdicts.proofs.no_common.Reads as no-common-reads
+use Rattle.verdicts.proofs.three_around.Reads as three-around-reads
 
 no-common-requires : tie.Need-no-common-requires
 no-common-requires c κs = search needs
@@ -16,25 +16,34 @@ same-length : tie.Need-same-length
 same-length c = search needs
 
 returns : tie.Need-returns
-returns c = collapse-common (held (c .before .before .before .before .before .before .before .args .corners .now) (c .before .before .before .before .before .before .before .args .n)) (c .before .before .before .before .before .before .before .args .a) (c .before .before .before .before .before .before .before .args .b) (c .before .before .before .before .before .before .before .args .h) (c .before .before .before .before .before .before .before .pre .1) (c .before .before .before .no-common .result) (c .before .before .before .no-common .ensures) (not-true _ (c .if1 .taken))
+returns c =
+    let m = c .before .before .before in
+    let o = m .before .before .before .before in
+    collapse-common (held (o .args .corners .now) (o .args .n)) (o .args .a) (o .args .b) (o .args .h) (o .pre .1) (m .no-common .result) (m .no-common .ensures) (not-true _ (c .if1 .taken))
 
-count-around-requires : tie.Need-count-around-requires
-count-around-requires c κs = search needs
+three-around-requires : tie.Need-three-around-requires
+three-around-requires c κs = search needs
 
 same-length-2 : tie.Need-same-length-2
 same-length-2 c = search needs
 
 returns-2 : tie.Need-returns-2
-returns-2 c = collapse-many (held (c .before .before .before .before .before .before .before .before .before .args .corners .now) (c .before .before .before .before .before .before .before .before .before .args .n)) (c .before .before .before .before .before .before .before .before .before .args .a) (c .before .before .before .before .before .before .before .before .before .args .b) (c .before .before .before .before .before .before .before .before .before .args .h) (c .before .before .before .before .before .before .before .before .before .pre .1) (c .before .before .before .before .before .no-common .result) (c .before .before .before .before .before .no-common .ensures) (not-false _ (c .before .before .if1 .left)) (c .before .count-around .result) (c .before .count-around .ensures) (c .if2 .taken)
+returns-2 c =
+    let m = c .before .before .before .before .before in
+    let o = m .before .before .before .before in
+    collapse-many (held (o .args .corners .now) (o .args .n)) (o .args .a) (o .args .b) (o .args .h) (o .pre .1) (m .no-common .result) (m .no-common .ensures) (not-false _ (c .before .before .if1 .left)) (c .before .three-around .result) (c .before .three-around .ensures) (not-true _ (c .if2 .taken))
 
-count-around-requires-2 : tie.Need-count-around-requires-2
-count-around-requires-2 c κs = search needs
+three-around-requires-2 : tie.Need-three-around-requires-2
+three-around-requires-2 c κs = search needs
 
 same-length-3 : tie.Need-same-length-3
 same-length-3 c = search needs
 
 returns-3 : tie.Need-returns-3
-returns-3 c = collapse-three (held (c .before .before .before .before .before .before .before .before .before .before .args .corners .now) (c .before .before .before .before .before .before .before .before .before .before .args .n)) (c .before .before .before .before .before .before .before .before .before .before .args .a) (c .before .before .before .before .before .before .before .before .before .before .args .b) (c .before .before .before .before .before .before .before .before .before .before .args .h) (c .before .before .before .before .before .before .before .before .before .before .pre .1) (c .before .before .before .before .before .before .no-common .result) (c .before .before .before .before .before .before .no-common .ensures) (not-false _ (c .before .before .before .if1 .left)) (c .before .before .count-around .result) (c .before .before .count-around .ensures) (c .before .if2 .left) (c .count-around2 .result) (c .count-around2 .ensures)
+returns-3 c =
+    let m = c .before .before .before .before .before .before in
+    let o = m .before .before .before .before in
+    collapse-three (held (o .args .corners .now) (o .args .n)) (o .args .a) (o .args .b) (o .args .h) (o .pre .1) (m .no-common .result) (m .no-common .ensures) (not-false _ (c .before .before .before .if1 .left)) (c .before .before .three-around .result) (c .before .before .three-around .ensures) (not-false _ (c .before .if2 .left)) (c .three-around2 .result) (c .three-around2 .ensures)
 
 pub may-collapse-spec : {M : Type 1} → statement M
 may-collapse-spec =
@@ -43,9 +52,9 @@ may-collapse-spec =
     no-common-requires
     same-length
     returns
-    count-around-requires
+    three-around-requires
     same-length-2
     returns-2
-    count-around-requires-2
+    three-around-requires-2
     same-length-3
     returns-3)

@@ -1,12 +1,23 @@
-use Rattle.verdicts.proofs.Scan.{named-law}
+use Rattle.verdicts.proofs.Scan.{named-law, unnamed}
 use Rattle.surface.specs.Flat.{triOf}
+use mathlib.Core.Path.{sym, _∙_}
 use native.Mathlib.Omega.{arith}
+use borrow.Author.Tests.{not-true}
 use borrow.Author.Needs.{needs}
 use Rattle.verdicts.proofs.named_in.Statement.{statement}
 use Rattle.verdicts.proofs.named_in.Tie as tie
 use Rattle.verdicts.proofs.named_in.Reads as reads
 use Rattle.verdicts.proofs.named_in.Lts as lts
+use Rattle.verdicts.proofs.names_in.Reads as names-in-reads
 use Rattle.verdicts.proofs.one_if.Reads as one-if-reads
+
+names-in-requires : tie.Need-names-in-requires
+names-in-requires c κs = search needs
+
+returns : tie.Need-returns
+returns c =
+    let g = c .before .before .args in
+    (unnamed (triOf (g .t1)) (g .v) (sym (c .before .names-in .ensures) ∙ not-true _ (c .if1 .taken)), search needs)
 
 array-read-one-if : tie.Need-array-read-one-if
 array-read-one-if c = search needs
@@ -32,13 +43,17 @@ add-result c = search needs
 add-result-2 : tie.Need-add-result-2
 add-result-2 c = search needs
 
-returns : tie.Need-returns
-returns c = (omega (arith, named-law (triOf (c .before .before .before .args .t1)) (c .before .before .before .args .v)), search needs)
+returns-2 : tie.Need-returns-2
+returns-2 c =
+    let g = c .before .before .before .before .before .args in
+    (omega (arith, named-law (triOf (g .t1)) (g .v)), search needs)
 
 pub named-in-spec : {M : Type 1} → statement M
 named-in-spec =
     tie.close
     (tie.spec
+    names-in-requires
+    returns
     array-read-one-if
     one-if-requires
     array-read-one-if-2
@@ -47,4 +62,4 @@ named-in-spec =
     one-if-requires-3
     add-result
     add-result-2
-    returns)
+    returns-2)
