@@ -1,7 +1,7 @@
 -- The search for a side, and the hinge from its two triangles.
 use Prim.Native.Nat.{ℕ, zero, suc, _+_, _*_, _≤_, _<_}
 use mathlib.Core.Path.{_≡_, refl, sym, _∙_, ap, subst}
-use mathlib.Core.Bool.{Bool, true, false, cond, _&&_, _||_}
+use mathlib.Core.Bool.{Bool, true, false, cond, _&&_}
 use mathlib.Core.List.{List, [], _∷_}
 use native.Mathlib.Omega.{arith}
 use lib.Dec.{eqb}
@@ -10,7 +10,6 @@ use lib.Seq.{length-take-le, getD-take, drop-cons, drop-length, take-set-lt}
 use Rattle.surface.specs.Triangle.{Tri, tri, triangles, names, runs}
 use Rattle.surface.specs.Closed.{Closed}
 use Rattle.surface.specs.Edit.{has, first, place, later, opposite, Hinge, hinge, flip}
-use Rattle.surface.proofs.Bools.{or-none}
 use Rattle.surface.proofs.Hinged.{Hinged}
 use Rattle.surface.proofs.Laws.{side-exists, hinge-found}
 use Rattle.history.proofs.Verdict.{first-has}
@@ -18,13 +17,13 @@ use Rattle.surface.specs.Flat.{triOf, held, threeAt}
 use Rattle.surface.proofs.Held.{length-held, place-held}
 use Rattle.verdicts.specs.Found.{hingeOf, Ready, SideAt}
 use Rattle.verdicts.specs.declared.Found.{Found}
+use Rattle.verdicts.proofs.Scan.{not-named}
 
 -- a triangle that does not name a has no side of a
 pub no-corner : (a b : ℕ) (t : Tri) → names t a ≡ false → false ≡ has a b t
 no-corner a b t e =
-    let g = or-none (eqb (t .a) a) (eqb (t .b) a || eqb (t .c) a) e in
-    let h = or-none (eqb (t .b) a) (eqb (t .c) a) (g .1) in
-    rw (g .0, h .0, h .1, and-false (eqb (t .a) b), and-false (eqb (t .b) b), and-false (eqb (t .c) b))
+    let g = not-named t a e in
+    rw (g .0, g .1, g .2, and-false (eqb (t .a) b), and-false (eqb (t .b) b), and-false (eqb (t .c) b))
   where
     and-false : (k : Bool) → (k && false) ≡ false
     and-false true = refl

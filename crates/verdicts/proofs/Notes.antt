@@ -10,7 +10,7 @@ use lib.Dec.{eqb}
 use lib.ListN.{length, getD, drop, set, replicate, length-set, length-replicate, getD-replicate, List·getD-eq-default}
 use lib.Seq.{getD-set-same, getD-set-other, drop-length}
 use borrow.Author.Tests.{eqb-true, eqb-false, eq-eqb, ne-eqb}
-use Rattle.surface.specs.Triangle.{Tri, tri}
+use Rattle.surface.specs.Triangle.{Tri, tri, names}
 use Rattle.surface.specs.Closed.{sides, Step, around, Closed}
 use Rattle.surface.specs.Edit.{place}
 use Rattle.surface.specs.Flat.{triOf, held, threeAt, triAt}
@@ -22,6 +22,7 @@ use Rattle.surface.proofs.Held.{length-held, place-held, read-held, drop-held, 
 use Rattle.surface.specs.Check.{every}
 use Rattle.history.specs.Local.{apart?, noCommon?}
 use Rattle.verdicts.specs.Notes.{On, Listed, noted, Noted, apartBy}
+use Rattle.verdicts.proofs.Scan.{not-named}
 
 -- the corners of a triangle of the list are below the number of points
 pub listed-on : {l : List ℕ} {n points : ℕ} → Listed l n points → (i : ℕ) → i < n → (t : List ℕ) → t ≡ threeAt l i → On points (triOf t)
@@ -220,6 +221,9 @@ module _ (a : ℕ) (t w : List ℕ) where
 
   pub noted-none : (getD t 0 0 ≡ a → ⊥) → (getD t 1 0 ≡ a → ⊥) → (getD t 2 0 ≡ a → ⊥) → w ≡ noted a (triOf t) w
   noted-none m n o = rw (ne-eqb (getD t 0 0) a m, ne-eqb (getD t 1 0) a n, ne-eqb (getD t 2 0) a o)
+
+  pub noted-off : names (triOf t) a ≡ false → w ≡ noted a (triOf t) w
+  noted-off e = let g = not-named (triOf t) a e in rw (g .0, g .1, g .2)
 
 pub listed-as : {l : List ℕ} {n points : ℕ} → Listed l n points → (k : ℕ) → k ≡ points → Listed l n k
 listed-as {l} {n} s k e = subst (λ (j : ℕ). Listed l n j) (sym e) s

@@ -12,7 +12,7 @@ use borrow.Author.Tests.{eqb-true, eqb-false, eq-eqb, ne-eqb}
 use Rattle.surface.specs.Triangle.{Tri, tri, triangles, names}
 use Rattle.surface.specs.Closed.{one, sides, Step, step, keep, around, Closed}
 use Rattle.surface.specs.Edit.{has, first, place, Hinge, hinge}
-use Rattle.surface.proofs.Bools.{none-of}
+use Rattle.surface.proofs.Bools.{or-none, none-of}
 use Rattle.surface.proofs.Hinged.{Hinged}
 use Rattle.surface.proofs.Laws.{side-exists, hinge-found}
 use Rattle.surface.specs.Check.{every}
@@ -84,6 +84,12 @@ named-law t v = omega (
   keep-length (eqb (t .b) v) (step (t .c) (t .a)) (keep (eqb (t .c) v) (step (t .a) (t .b)) []),
   keep-length (eqb (t .c) v) (step (t .a) (t .b)) [],
 )
+
+pub not-named : (t : Tri) (v : ℕ) → names t v ≡ false → (eqb (t .a) v ≡ false) × (eqb (t .b) v ≡ false) × (eqb (t .c) v ≡ false)
+not-named t v e =
+    let g = or-none (eqb (t .a) v) (eqb (t .b) v || eqb (t .c) v) e in
+    let h = or-none (eqb (t .b) v) (eqb (t .c) v) (g .1) in
+    (g .0, h .0, h .1)
 
 pub unnamed : (t : Tri) (v : ℕ) → names t v ≡ false → 0 ≡ length (around (t ∷ []) v)
 unnamed t v e = sym (named-law t v ∙ none-of (eqb (t .a) v) (eqb (t .b) v) (eqb (t .c) v) e)

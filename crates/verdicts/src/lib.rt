@@ -6,19 +6,19 @@ ghost use mathlib.Core.Path.{_≡_};
 ghost use mathlib.Core.List.{List, _∷_, []};
 ghost use mathlib.Core.Bool.{Bool, true, false, _&&_, _||_, not, cond};
 ghost use Prim.Native.Nat.{ℕ, suc, _+_, _*_, _<_, _≤_};
-ghost use lib.ListN.{length, getD, drop, take, set};
+ghost use lib.ListN.{length, getD, drop, take};
 ghost use lib.Dec.{eqb};
 ghost use Rattle.surface.specs.Triangle.{runs, names};
 ghost use Rattle.surface.specs.Edit.{has, first, opposite, startOf, hinge};
 ghost use Rattle.surface.specs.Closed.{sides, one, around, Step};
 ghost use Rattle.surface.specs.Flat.{triOf, held, triAt};
 ghost use Rattle.surface.specs.Check.{every};
-ghost use Rattle.surface.specs.Label.{carries};
-ghost use Rattle.history.specs.History.{covered, words};
-ghost use Rattle.history.specs.Local.{noCommon?, collapse?, flip?, flipWord, collapseWord};
+ghost use Rattle.history.specs.History.{words};
+ghost use Rattle.history.specs.Local.{collapse?, flip?, flipWord, collapseWord};
 ghost use Rattle.history.specs.Flat.{pairOf, entryOf};
-ghost use Rattle.verdicts.specs.Found.{hingeOf, Ready, SideAt, Hung, Labelled, Flags};
+ghost use Rattle.verdicts.specs.Found.{hingeOf, Ready, SideAt, Hung, Labelled};
 ghost use Rattle.verdicts.specs.Notes.{On, Listed, noted, Noted, apartBy};
+ghost use Rattle.verdicts.specs.Survey.{flagged, Surveyed, flagsCover};
 
 // Two corners are u and v.
 fn are(x: u32, y: u32, u: u32, v: u32) -> bool
@@ -222,6 +222,79 @@ pub fn note_steps(corners: &[u32], n: usize, a: u32, notes: &mut [u32])
     }
 }
 
+// The flag of a triangle's label is set, where the triangle names v.
+fn flag_label(flags: &mut [bool; 8], t: [u32; 3], label: u8, v: u32)
+    requires { ⌜ label ≤ 7 ⌝ }
+    ensures { λ _. ⌜ now (flags .exit) ≡ flagged v (triOf t) label (now (flags .entry)) ⌝ }
+{
+    if names_in(t, v) {
+        let k = label as usize;
+        flags[k] = true;
+    }
+}
+
+// The same, and the triangle's step around v is noted.
+fn flag_and_note(flags: &mut [bool; 8], notes: &mut [u32], t: [u32; 3], label: u8, v: u32)
+    requires { ⌜ label ≤ 7 ⌝ }
+    requires { ⌜ On (length (now notes)) (triOf t) ⌝ }
+    requires { ⌜ length (now notes) ≤ 32768 ⌝ }
+    ensures { λ _. ⌜ now (flags .exit) ≡ flagged v (triOf t) label (now (flags .entry)) ⌝ }
+    ensures { λ _. ⌜ now (notes .exit) ≡ noted v (triOf t) (now (notes .entry)) ⌝ }
+{
+    if !names_in(t, v) {
+        return;
+    }
+    let k = label as usize;
+    flags[k] = true;
+    note_step(t, v, notes);
+}
+
+// The labels that the corner that a collapse keeps and the one that it removes carry, a flag for each label.
+struct Carried {
+    kept: [bool; 8],
+    removed: [bool; 8],
+}
+
+// The labels of a and b, and every step around b noted, in one pass. The words of `notes`, one for each point, are 0 before.
+fn survey(corners: &[u32], labels: &[u8], n: usize, a: u32, b: u32, notes: &mut [u32]) -> Carried
+    requires { ⌜ Labelled (now corners) (now labels) n ⌝ }
+    requires { ⌜ Listed (now corners) n (length (now notes)) ⌝ }
+    requires { ⌜ ((x : ℕ) → getD (now notes) x 0 ≡ 0) ⌝ }
+    ensures { λ r. ⌜ Surveyed (held (now (corners .entry)) n) (take n (now (labels .entry))) a b r (now (notes .exit)) ⌝ }
+{
+    let mut kept = [false; 8];
+    let mut removed = [false; 8];
+    let mut i = 0;
+    while i < n {
+        let t = triangle_at(corners, i);
+        flag_label(&mut kept, t, labels[i], a);
+        flag_and_note(&mut removed, notes, t, labels[i], b);
+        i += 1;
+    }
+    Carried { kept, removed }
+}
+
+// Where the first flag is set, the second is.
+fn flag_covered(removed: bool, kept: bool) -> bool
+    ensures { λ r. ⌜ r ≡ (not removed || kept) ⌝ }
+{
+    if removed { kept } else { true }
+}
+
+// Every label of the removed corner is one of the kept corner.
+fn covers(c: Carried) -> bool
+    ensures { λ r. ⌜ r ≡ flagsCover (c .kept) (c .removed) ⌝ }
+{
+    let mut k: usize = 0;
+    while k < 8 {
+        if !flag_covered(c.removed[k], c.kept[k]) {
+            return false;
+        }
+        k += 1;
+    }
+    true
+}
+
 // x has no note, or it is c or d.
 fn apart_at(notes: &[u32], c: u32, d: u32, x: u32) -> bool
     requires { ⌜ x < length (now notes) ⌝ }
@@ -278,23 +351,14 @@ fn all_apart(corners: &[u32], n: usize, notes: &[u32], a: u32, c: u32, d: u32) -
     true
 }
 
-// a and b have no common neighbour but c and d. The neighbours of b are noted, in a word for each point.
-fn no_common(corners: &[u32], n: usize, notes: &mut [u32], a: u32, b: u32, c: u32, d: u32) -> bool
+// The collapse that keeps a and removes b makes a closed list. The steps around b are noted.
+fn may_collapse(corners: &[u32], n: usize, notes: &[u32], a: u32, b: u32, h: Found) -> bool
     requires { ⌜ Listed (now corners) n (length (now notes)) ⌝ }
-    ensures { λ r. ⌜ r ≡ noCommon? (held (now (corners .entry)) n) a b c d ⌝ }
-{
-    let points = notes.len();
-    clear(notes, points);
-    note_steps(corners, n, b, notes);
-    all_apart(corners, n, notes, a, c, d)
-}
-
-// The collapse that keeps a and removes b makes a closed list.
-fn may_collapse(corners: &[u32], n: usize, notes: &mut [u32], a: u32, b: u32, h: Found) -> bool
-    requires { ⌜ (Listed (now corners) n (length (now notes))) × (hingeOf h ≡ hinge (held (now corners) n) a b) ⌝ }
+    requires { ⌜ Noted (held (now corners) n) b (now notes) ⌝ }
+    requires { ⌜ hingeOf h ≡ hinge (held (now corners) n) a b ⌝ }
     ensures { λ r. ⌜ r ≡ collapse? (held (now (corners .entry)) n) a b ⌝ }
 {
-    if !no_common(corners, n, notes, a, b, h.c, h.d) {
+    if !all_apart(corners, n, notes, a, h.c, h.d) {
         return false;
     }
     if !three_around(corners, n, a) {
@@ -309,59 +373,6 @@ fn may_flip(corners: &[u32], n: usize, a: u32, b: u32, h: Found) -> bool
     ensures { λ r. ⌜ r ≡ flip? (held (now (corners .entry)) n) a b ⌝ }
 {
     absent(corners, n, h.c, h.d)
-}
-
-// The flag of a triangle's label is set, where the triangle names v.
-fn flag_label(flags: &mut [bool; 8], t: [u32; 3], label: u8, v: u32)
-    requires { ⌜ label ≤ 7 ⌝ }
-    ensures { λ _. ⌜ now (flags .exit) ≡ cond (names (triOf t) v) (set (now (flags .entry)) label true) (now (flags .entry)) ⌝ }
-{
-    if names_in(t, v) {
-        let k = label as usize;
-        flags[k] = true;
-    }
-}
-
-// The labels that v carries, a flag for each.
-fn labels_at(corners: &[u32], labels: &[u8], n: usize, v: u32) -> [bool; 8]
-    requires { ⌜ Labelled (now corners) (now labels) n ⌝ }
-    ensures { λ r. ⌜ Flags (held (now (corners .entry)) n) (take n (now (labels .entry))) v r ⌝ }
-{
-    let mut flags = [false; 8];
-    let mut i = 0;
-    while i < n {
-        flag_label(&mut flags, triangle_at(corners, i), labels[i], v);
-        i += 1;
-    }
-    flags
-}
-
-// Where a triangle names v, its label is flagged.
-fn flagged(flags: &[bool; 8], t: [u32; 3], label: u8, v: u32) -> bool
-    requires { ⌜ label ≤ 7 ⌝ }
-    ensures { λ r. ⌜ r ≡ (not (names (triOf t) v) || getD (now (flags .entry)) label false) ⌝ }
-{
-    if names_in(t, v) {
-        let k = label as usize;
-        return flags[k];
-    }
-    true
-}
-
-// Every label of b is one of a.
-fn covers(corners: &[u32], labels: &[u8], n: usize, a: u32, b: u32) -> bool
-    requires { ⌜ Labelled (now corners) (now labels) n ⌝ }
-    ensures { λ r. ⌜ r ≡ covered (pairOf (now (corners .entry)) (now (labels .entry)) n) a b ⌝ }
-{
-    let flags = labels_at(corners, labels, n, a);
-    let mut i = 0;
-    while i < n {
-        if !flagged(&flags, triangle_at(corners, i), labels[i], b) {
-            return false;
-        }
-        i += 1;
-    }
-    true
 }
 
 // The verdict word of a flip of an existing side.
@@ -404,7 +415,10 @@ pub fn collapse_word(
     requires { ⌜ Labelled (now corners) (now labels) n ⌝ }
     ensures { λ r. ⌜ r ≡ collapseWord (pairOf (now (corners .entry)) (now (labels .entry)) n) a b space ⌝ }
 {
-    if !covers(corners, labels, n, a, b) {
+    let points = notes.len();
+    clear(notes, points);
+    let carried = survey(corners, labels, n, a, b, notes);
+    if !covers(carried) {
         return 24;
     }
     if !may_collapse(corners, n, notes, a, b, h) {

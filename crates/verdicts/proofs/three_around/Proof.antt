@@ -5,7 +5,7 @@ use borrow.Author.Needs.{needs}
 use lib.ListN.{length, drop}
 use mathlib.Core.Path.{_≡_}
 use native.Mathlib.Omega.{arith}
-use Prim.Native.Nat.{_+_, _-_, _*_, _≤_}
+use Prim.Native.Nat.{_+_, _-_, _≤_}
 use Rattle.verdicts.proofs.three_around.Statement.{statement}
 use Rattle.verdicts.proofs.three_around.Tie as tie
 use Rattle.verdicts.proofs.three_around.Reads as reads
