@@ -8,7 +8,7 @@ use native.Mathlib.Omega.{arith}
 use native.Mathlib.Nat.{min-le-left}
 use native.Mathlib.Decide.{ℕ-discrete, decLt}
 use lib.Dec.{eqb}
-use lib.ListN.{length, getD, take, drop, set, replicate, length-set, length-append, length-take, length-drop, List·getD-append, List·getD-eq-default}
+use lib.ListN.{length, getD, take, drop, set, length-set, length-append, length-take, length-drop, List·getD-append, List·getD-eq-default}
 use lib.Seq.{length-take-le, getD-take, getD-drop, getD-set-same, getD-set-other, getD-append-add}
 use borrow.Author.Tests.{eq-eqb, ne-eqb}
 use Rattle.surface.specs.Triangle.{Tri, tri}
@@ -23,7 +23,6 @@ use Rattle.history.specs.Undo.{walk, among, again, restored}
 use Rattle.history.specs.Route.{Route}
 use Rattle.history.proofs.Walk.{starts, walk-path}
 use Rattle.verdicts.specs.Notes.{Listed, Noted, On}
-use Rattle.verdicts.proofs.Notes.{cleared}
 use Rattle.entries.specs.Marks.{unmarked, Marked, Routed, againBy, restoredBy}
 use Rattle.entries.proofs.Mapped.{tri-path}
 
@@ -220,10 +219,7 @@ again-left points w a b x y k e z = go (eqb x a)
 pub again-marked : (points : ℕ) (w : List ℕ) (a b x y k : ℕ) → k ≡ y → x ≡ a → (getD w (points + k) 0 ≡ 0 → ⊥) → b ≡ againBy points w a b x y
 again-marked points w a b x y k e f n = rw (eq-eqb x a f, ne-eqb (getD w (points + y) 0) 0 (λ z. n (ap (λ (j : ℕ). getD w (points + j) 0) e ∙ z)))
 
--- words that were cleared, and a part of them
-pub cleared-all : (k : ℕ) (w w′ : List ℕ) → length w ≡ k → w′ ≡ replicate k 0 ++ drop k w → (j : ℕ) → getD w′ j 0 ≡ 0
-cleared-all k w w′ e f = cleared w w′ (f ∙ ap (λ (i : ℕ). replicate i 0 ++ drop i w) (sym e))
-
+-- the first of words that are 0
 pub front-zero : (k : ℕ) (w : List ℕ) → ((j : ℕ) → getD w j 0 ≡ 0) → (j : ℕ) → getD (take k w) j 0 ≡ 0
 front-zero k w z j = pick (decLt j k)
   where

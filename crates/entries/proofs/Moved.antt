@@ -14,6 +14,7 @@ use Rattle.surface.proofs.Held.{length-held, place-held, set-held, length-put}
 use Rattle.history.specs.Undo.{inserted}
 use Rattle.surface.proofs.Labels.{skip, out-at}
 use Rattle.surface.proofs.Places.{length-without}
+use Rattle.verdicts.proofs.Notes.{cleared}
 use Rattle.entries.specs.Moved.{Zero, Forward, Backward}
 
 -- the words move forward, one at each turn
@@ -34,13 +35,6 @@ shifting-on {by} {i} {l} {cur} s f v e = record { size = length-set cur i v ∙ 
 
     left : (j : ℕ) → i + 1 ≤ j → getD (set cur i v) j 0 ≡ getD l j 0
     left j p = let q : j ≢ i = λ z. omega arith in getD-set-other cur i j v 0 q ∙ s .left j (omega arith)
-
-pub shifting-end : {by i : ℕ} {l cur : List ℕ} → Shifting by i l cur → length cur ≤ i → Forward 0 by l cur
-shifting-end {by} {i} {l} {cur} s f = record { size = s .size; before = λ j p. absurd (omega arith); moved = λ j p. pick j (decLt j i) }
-  where
-    pick : (j : ℕ) → Dec (j < i) → getD cur j 0 ≡ getD l (j + by) 0
-    pick j (yes q) = s .done j q
-    pick j (no q) = let z = s .size in s .left j (omega arith) ∙ List·getD-eq-default l 0 (omega arith) ∙ sym (List·getD-eq-default l 0 (omega arith))
 
 -- the words move back, one at each turn from the end
 pub record Sinking (by i : ℕ) (l cur : List ℕ) : Type 0 where
@@ -75,7 +69,7 @@ pub sinking-end : {by i : ℕ} {l cur : List ℕ} → Sinking by i l cur → i �
 sinking-end {by} {i} {l} {cur} s f = record { size = s .size; before = λ j p. absurd (omega arith); moved = λ j p r. s .back j (omega arith) r }
 
 -- a part that was moved, in the whole list
-module _ (q by : ℕ) (l part′ l′ : List ℕ) (f : q ≤ length l) (e : l′ ≡ take q l ++ part′) where
+module _ (q : ℕ) (l part′ l′ : List ℕ) (f : q ≤ length l) (e : l′ ≡ take q l ++ part′) where
   front : length (take q l) ≡ q
   front = length-take-le q l f
 
@@ -88,8 +82,8 @@ module _ (q by : ℕ) (l part′ l′ : List ℕ) (f : q ≤ length l) (e : l′
   whole-size : length part′ ≡ length (drop q l) → length l′ ≡ length l
   whole-size g = omega (arith, ap length e, length-append (take q l) part′, front, length-drop q l)
 
-  pub forward-whole : Forward 0 by (drop q l) part′ → Forward q by l l′
-  forward-whole s = record {
+  forward-whole : {by : ℕ} → Forward 0 by (drop q l) part′ → Forward q by l l′
+  forward-whole {by} s = record {
     size = whole-size (s .size);
     before = at-front;
     moved = λ j p.
@@ -98,8 +92,8 @@ module _ (q by : ℕ) (l part′ l′ : List ℕ) (f : q ≤ length l) (e : l′
         sym (ap (λ (k : ℕ). getD l′ k 0) h) ∙ at-part (j - q) ∙ s .moved (j - q) (omega arith) ∙ getD-drop q l (j - q + by) 0 ∙ ap (λ (k : ℕ). getD l k 0) g;
   }
 
-  pub backward-whole : Backward 0 by (drop q l) part′ → Backward q by l l′
-  backward-whole s = record {
+  backward-whole : {by : ℕ} → Backward 0 by (drop q l) part′ → Backward q by l l′
+  backward-whole {by} s = record {
     size = whole-size (s .size);
     before = at-front;
     moved = λ j p r.
@@ -109,7 +103,7 @@ module _ (q by : ℕ) (l part′ l′ : List ℕ) (f : q ≤ length l) (e : l′
   }
 
 -- the same where the part was lent from q to the end of the list
-module _ (q by : ℕ) (l part′ : List ℕ) (f : q ≤ length l) where
+module _ (q : ℕ) (l part′ : List ℕ) (f : q ≤ length l) where
   abbrev lent : List ℕ
   lent = take (length l - q) (drop q l)
 
@@ -126,11 +120,44 @@ module _ (q by : ℕ) (l part′ : List ℕ) (f : q ≤ length l) where
       append-nil [] = refl
       append-nil (y ∷ m) = ap (λ (n : List ℕ). y ∷ n) (append-nil m)
 
-  pub forward-lent : Forward 0 by lent part′ → Forward q by l whole
-  forward-lent s = forward-whole q by l part′ whole f whole-is (subst (λ (m : List ℕ). Forward 0 by m part′) lent-is s)
+  pub forward-lent : {by : ℕ} → Forward 0 by lent part′ → Forward q by l whole
+  forward-lent {by} s = forward-whole q l part′ whole f whole-is (subst (λ (m : List ℕ). Forward 0 by m part′) lent-is s)
 
-  pub backward-lent : Backward 0 by lent part′ → Backward q by l whole
-  backward-lent s = backward-whole q by l part′ whole f whole-is (subst (λ (m : List ℕ). Backward 0 by m part′) lent-is s)
+  pub backward-lent : {by : ℕ} → Backward 0 by lent part′ → Backward q by l whole
+  backward-lent {by} s = backward-whole q l part′ whole f whole-is (subst (λ (m : List ℕ). Backward 0 by m part′) lent-is s)
+
+-- words that were cleared
+pub cleared-all : (k : ℕ) (w w′ : List ℕ) → length w ≡ k → w′ ≡ replicate k 0 ++ drop k w → (j : ℕ) → getD w′ j 0 ≡ 0
+cleared-all k w w′ e f = cleared w w′ (f ∙ ap (λ (i : ℕ). replicate i 0 ++ drop i w) (sym e))
+
+-- the words have moved as far as some follow, and what they left behind was cleared
+module _ {by i end : ℕ} {l cur : List ℕ} (part′ : List ℕ) (s : Shifting by i l cur) (e : end ≡ length l - by) where
+  behind-fits : end ≤ length cur
+  behind-fits = omega (arith, s .size)
+
+  abbrev behind : List ℕ
+  behind = take (length cur - end) (drop end cur)
+
+  abbrev after : List ℕ
+  after = take end cur ++ (part′ ++ drop (length cur - end) (drop end cur))
+
+  after-is : take end cur ++ (part′ ++ drop (length cur - end) (drop end cur)) ≡ take end cur ++ part′
+  after-is = whole-is end cur part′ behind-fits
+
+  pub shifting-end : end ≤ i → length part′ ≡ length behind → part′ ≡ replicate (length cur - end) 0 ++ drop (length cur - end) behind → Forward 0 by l after
+  shifting-end g k z = record {
+    size = whole-size end cur part′ after behind-fits after-is (k ∙ ap length (lent-is end cur part′ behind-fits)) ∙ s .size;
+    before = λ j p. absurd (omega arith);
+    moved = λ j p. pick j (decLt j end);
+  }
+    where
+      pick : (j : ℕ) → Dec (j < end) → getD after j 0 ≡ getD l (j + by) 0
+      pick j (yes q) = at-front end cur part′ after behind-fits after-is j q ∙ s .done j (omega arith)
+      pick j (no q) =
+          let h : end + (j - end) ≡ j = omega arith in
+          sym (ap (λ (m : ℕ). getD after m 0) h) ∙ at-part end cur part′ after behind-fits after-is (j - end)
+          ∙ cleared-all (length cur - end) behind part′ (length-take-le (length cur - end) (drop end cur) (omega (arith, length-drop end cur))) z (j - end)
+          ∙ sym (List·getD-eq-default l 0 (omega arith))
 
 -- what stands behind a place that is written over
 pub backward-set : {q by : ℕ} {l l′ : List ℕ} (k v : ℕ) → Backward q by l l′ → q ≤ k → k < q + by → Backward q by l (set l′ k v)

@@ -13,7 +13,7 @@ use verdicts::record_of;
 ghost use mathlib.Core.Path.{_≡_};
 ghost use mathlib.Core.List.{List, map, _++_};
 ghost use mathlib.Core.Bool.{cond};
-ghost use Prim.Native.Nat.{ℕ, suc, _+_, _*_, _<_, _≤_};
+ghost use Prim.Native.Nat.{ℕ, suc, _+_, _*_, _-_, _<_, _≤_};
 ghost use lib.ListN.{length, getD, drop, take, set, replicate};
 ghost use lib.Dec.{eqb};
 ghost use Rattle.surface.specs.Triangle.{tri};
@@ -30,23 +30,28 @@ ghost use Rattle.entries.specs.Moved.{Zero, Forward, Backward, Reduced};
 ghost use Rattle.entries.specs.Marks.{Marked, Routed, againBy, restoredBy, Mapped};
 ghost use Rattle.entries.specs.Undoes.{firstOf, secondOf, Unflips, Uncollapses, Restored};
 
-// The word at a place, 0 past the end.
-fn word_or_zero(s: &[u32], k: usize) -> u32
-    ensures { λ r. ⌜ r ≡ getD (now (s .entry)) k 0 ⌝ }
+// a less b; 0 where b is the greater.
+fn less(a: usize, b: usize) -> usize
+    ensures { λ r. ⌜ r ≡ a - b ⌝ }
 {
-    if k < s.len() { s[k] } else { 0 }
+    if a < b {
+        return 0;
+    }
+    a - b
 }
 
 // The words move forward by some places; 0 comes in at the end.
 fn shift_forward(part: &mut [u32], by: usize)
-    requires { ⌜ by ≤ 3 ⌝ }
     ensures { λ _. ⌜ Forward 0 by (now (part .entry)) (now (part .exit)) ⌝ }
 {
+    let end = less(part.len(), by);
     let mut i = 0;
-    while i < part.len() {
-        part[i] = word_or_zero(part, i + by);
+    while i < end {
+        part[i] = part[i + by];
         i += 1;
     }
+    let freed = part.len() - end;
+    clear(&mut part[end..], freed);
 }
 
 // The words move back by some places; the last ones go.
@@ -61,22 +66,30 @@ fn shift_back(part: &mut [u32], by: usize)
     }
 }
 
-// The label at a place, 0 past the end.
-fn label_or_zero(s: &[u8], k: usize) -> u8
-    ensures { λ r. ⌜ r ≡ getD (now (s .entry)) k 0 ⌝ }
+// The first count labels become 0.
+fn clear_labels(labels: &mut [u8], count: usize)
+    requires { ⌜ count ≤ length (now labels) ⌝ }
+    ensures { λ _. ⌜ now (labels .exit) ≡ replicate count 0 ++ drop count (now (labels .entry)) ⌝ }
 {
-    if k < s.len() { s[k] } else { 0 }
+    let mut i: usize = 0;
+    while i < count {
+        labels[i] = 0;
+        i += 1;
+    }
 }
 
 // The labels move forward by one place; 0 comes in at the end.
 fn shift_labels_forward(part: &mut [u8])
     ensures { λ _. ⌜ Forward 0 1 (now (part .entry)) (now (part .exit)) ⌝ }
 {
+    let end = less(part.len(), 1);
     let mut i = 0;
-    while i < part.len() {
-        part[i] = label_or_zero(part, i + 1);
+    while i < end {
+        part[i] = part[i + 1];
         i += 1;
     }
+    let freed = part.len() - end;
+    clear_labels(&mut part[end..], freed);
 }
 
 // The labels move back by one place; the last one goes.

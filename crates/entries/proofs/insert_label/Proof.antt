@@ -28,7 +28,7 @@ same-length : tie.Need-same-length
 same-length c = search needs
 
 returns : tie.Need-returns
-returns c = label-put (c .before .before .before .before .before .args .x) (backward-lent (c .before .before .before .before .before .args .p) 1 (c .before .before .before .before .before .args .labels .now) (c .before .before .shift-labels-back .last .0) (omega (arith, c .before .before .before .before .before .pre)) (c .before .before .shift-labels-back .ensures)) (c .before .before .before .before .before .pre)
+returns c = label-put (c .before .before .before .before .before .args .x) (backward-lent (c .before .before .before .before .before .args .p) (c .before .before .before .before .before .args .labels .now) (c .before .before .shift-labels-back .last .0) (omega (arith, c .before .before .before .before .before .pre)) (c .before .before .shift-labels-back .ensures)) (c .before .before .before .before .before .pre)
 
 pub insert-label-spec : {M : Type 1} → statement M
 insert-label-spec =

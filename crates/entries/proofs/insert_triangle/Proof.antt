@@ -39,7 +39,7 @@ same-length : tie.Need-same-length
 same-length c = search needs
 
 returns : tie.Need-returns
-returns c = triangle-put (c .before .before .before .before .before .before .before .before .before .args .p) (triOf (c .before .before .before .before .before .before .before .before .before .args .t)) (backward-lent (3 * c .before .before .before .before .before .before .before .before .before .args .p) 3 (c .before .before .before .before .before .before .before .before .before .args .corners .now) (c .before .before .before .before .before .before .shift-back .last .0) (omega (arith, c .before .before .before .before .before .before .before .before .before .pre)) (c .before .before .before .before .before .before .shift-back .ensures)) (c .before .before .before .before .before .before .before .before .before .pre) (c .before .before .put-triangle .ensures)
+returns c = triangle-put (c .before .before .before .before .before .before .before .before .before .args .p) (triOf (c .before .before .before .before .before .before .before .before .before .args .t)) (backward-lent (3 * c .before .before .before .before .before .before .before .before .before .args .p) (c .before .before .before .before .before .before .before .before .before .args .corners .now) (c .before .before .before .before .before .before .shift-back .last .0) (omega (arith, c .before .before .before .before .before .before .before .before .before .pre)) (c .before .before .before .before .before .before .shift-back .ensures)) (c .before .before .before .before .before .before .before .before .before .pre) (c .before .before .put-triangle .ensures)
 
 pub insert-triangle-spec : {M : Type 1} → statement M
 insert-triangle-spec =

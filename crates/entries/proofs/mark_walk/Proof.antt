@@ -1,5 +1,6 @@
 use borrow.Author.Needs.{needs}
-use Rattle.entries.proofs.Marks.{Walking, walking-start, walking-end, walking-fits, walking-below, walking-note, walking-on, cleared-all, front-zero}
+use Rattle.entries.proofs.Marks.{Walking, walking-start, walking-end, walking-fits, walking-below, walking-note, walking-on, front-zero}
+use Rattle.entries.proofs.Moved.{cleared-all}
 use Rattle.entries.proofs.Acts.{listed-front}
 use Rattle.verdicts.proofs.Scan.{around-most}
 use Rattle.surface.proofs.Held.{length-held}

@@ -23,7 +23,7 @@ same-length : tie.Need-same-length
 same-length c = search needs
 
 returns : tie.Need-returns
-returns c = forward-lent (c .before .before .before .before .before .args .p) 1 (c .before .before .before .before .before .args .labels .now) (c .before .before .shift-labels-forward .last .0) (omega (arith, c .before .before .before .before .before .pre)) (c .before .before .shift-labels-forward .ensures)
+returns c = forward-lent (c .before .before .before .before .before .args .p) (c .before .before .before .before .before .args .labels .now) (c .before .before .shift-labels-forward .last .0) (omega (arith, c .before .before .before .before .before .pre)) (c .before .before .shift-labels-forward .ensures)
 
 pub remove-label-spec : {M : Type 1} → statement M
 remove-label-spec =

@@ -30,7 +30,7 @@ same-length : tie.Need-same-length
 same-length c = search needs
 
 returns : tie.Need-returns
-returns c = forward-lent (3 * c .before .before .before .before .before .args .p) 3 (c .before .before .before .before .before .args .corners .now) (c .before .before .shift-forward .last .0) (omega (arith, c .before .before .before .before .before .pre)) (c .before .before .shift-forward .ensures)
+returns c = forward-lent (3 * c .before .before .before .before .before .args .p) (c .before .before .before .before .before .args .corners .now) (c .before .before .shift-forward .last .0) (omega (arith, c .before .before .before .before .before .pre)) (c .before .before .shift-forward .ensures)
 
 pub remove-triangle-spec : {M : Type 1} → statement M
 remove-triangle-spec =

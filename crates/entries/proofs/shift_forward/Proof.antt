@@ -1,31 +1,34 @@
-use native.Mathlib.Omega.{arith}
 use borrow.Author.Needs.{needs}
 use Rattle.entries.proofs.Moved.{Shifting, shifting-start, shifting-on, shifting-end}
-use lib.ListN.{length}
+use mathlib.Core.Path.{refl}
+use native.Mathlib.Omega.{arith}
 use Prim.Native.Nat.{_-_}
 use Rattle.entries.proofs.shift_forward.Statement.{statement}
 use Rattle.entries.proofs.shift_forward.Tie as tie
-use Rattle.entries.proofs.shift_forward.Reads as reads
-use Rattle.entries.proofs.shift_forward.Lts as lts
-use Rattle.entries.proofs.word_or_zero.Reads as word-or-zero-reads
 
 abbrev Inv-loop : tie.InvT-loop
-Inv-loop part₀ by i₀ part i = Shifting by i part₀ part
+Inv-loop part₀ by end i₀ part i = Shifting by i part₀ part
 
 abbrev μ-loop : tie.MeasureT-loop
-μ-loop part₀ by i₀ part i = length part₀ - i
+μ-loop part₀ by end i₀ part i = end - i
+
+less-requires : tie.Need-less-requires Inv-loop μ-loop
+less-requires c κs = search needs
 
 loop-holds : tie.Need-loop-holds Inv-loop μ-loop
-loop-holds c = shifting-start (c .before .args .by) (c .before .args .part .now)
+loop-holds c = shifting-start (c .before .before .args .by) (c .before .before .args .part .now)
 
-add-word-or-zero : tie.Need-add-word-or-zero Inv-loop μ-loop
-add-word-or-zero c = search needs
-
-word-or-zero-requires : tie.Need-word-or-zero-requires Inv-loop μ-loop
-word-or-zero-requires c κs = search needs
+add-part : tie.Need-add-part Inv-loop μ-loop
+add-part c = search needs
 
 mul-part : tie.Need-mul-part Inv-loop μ-loop
 mul-part c = search needs
+
+slice-read-part : tie.Need-slice-read-part Inv-loop μ-loop
+slice-read-part c = search needs
+
+mul-part-2 : tie.Need-mul-part-2 Inv-loop μ-loop
+mul-part-2 c = search needs
 
 slice-write-part : tie.Need-slice-write-part Inv-loop μ-loop
 slice-write-part c = search needs
@@ -34,16 +37,34 @@ add-i : tie.Need-add-i Inv-loop μ-loop
 add-i c = search needs
 
 loop-less : tie.Need-loop-less Inv-loop μ-loop
-loop-less c = omega (arith, c .before .before .before .loop .inv .size)
+loop-less c = search needs
 
 loop-again : tie.Need-loop-again Inv-loop μ-loop
-loop-again c = shifting-on (c .before .before .before .loop .inv) (c .before .before .loop-test .taken) (c .word-or-zero .result) (c .word-or-zero .ensures)
+loop-again c = let l = c .before .before in shifting-on (l .loop .inv) (omega (arith, l .loop .inv .size)) _ refl
+
+sub-freed : tie.Need-sub-freed Inv-loop μ-loop
+sub-freed c = search needs
+
+mul-clear : tie.Need-mul-clear Inv-loop μ-loop
+mul-clear c = search needs
+
+sub-clear : tie.Need-sub-clear Inv-loop μ-loop
+sub-clear c = search needs
+
+part-clear-start : tie.Need-part-clear-start Inv-loop μ-loop
+part-clear-start c = search needs
+
+part-clear-end : tie.Need-part-clear-end Inv-loop μ-loop
+part-clear-end c = search needs
+
+clear-requires : tie.Need-clear-requires Inv-loop μ-loop
+clear-requires c κs = search needs
 
 same-length : tie.Need-same-length Inv-loop μ-loop
-same-length c = c .before .loop .inv .size
+same-length c = search needs
 
 returns : tie.Need-returns Inv-loop μ-loop
-returns c = shifting-end (c .before .loop .inv) (c .loop-test .left)
+returns c = let d = c .before .before in shifting-end (d .clear .last .0) (d .before .before .before .loop .inv) (d .before .before .before .before .less .ensures) (d .before .before .loop-test .left) (d .clear .kept .0) (d .clear .ensures)
 
 pub shift-forward-spec : {M : Type 1} → statement M
 shift-forward-spec =
@@ -51,13 +72,21 @@ shift-forward-spec =
     (tie.spec
     Inv-loop
     μ-loop
+    less-requires
     loop-holds
-    add-word-or-zero
-    word-or-zero-requires
+    add-part
     mul-part
+    slice-read-part
+    mul-part-2
     slice-write-part
     add-i
     loop-less
     loop-again
+    sub-freed
+    mul-clear
+    sub-clear
+    part-clear-start
+    part-clear-end
+    clear-requires
     same-length
     returns)

@@ -1,28 +1,28 @@
-use native.Mathlib.Omega.{arith}
 use borrow.Author.Needs.{needs}
 use Rattle.entries.proofs.Moved.{Shifting, shifting-start, shifting-on, shifting-end}
-use lib.ListN.{length}
+use mathlib.Core.Path.{refl}
+use native.Mathlib.Omega.{arith}
 use Prim.Native.Nat.{_-_}
 use Rattle.entries.proofs.shift_labels_forward.Statement.{statement}
 use Rattle.entries.proofs.shift_labels_forward.Tie as tie
-use Rattle.entries.proofs.shift_labels_forward.Reads as reads
-use Rattle.entries.proofs.shift_labels_forward.Lts as lts
-use Rattle.entries.proofs.label_or_zero.Reads as label-or-zero-reads
 
 abbrev Inv-loop : tie.InvT-loop
-Inv-loop part₀ i₀ part i = Shifting 1 i part₀ part
+Inv-loop part₀ end i₀ part i = Shifting 1 i part₀ part
 
 abbrev μ-loop : tie.MeasureT-loop
-μ-loop part₀ i₀ part i = length part₀ - i
+μ-loop part₀ end i₀ part i = end - i
+
+less-requires : tie.Need-less-requires Inv-loop μ-loop
+less-requires c κs = search needs
 
 loop-holds : tie.Need-loop-holds Inv-loop μ-loop
-loop-holds c = shifting-start 1 (c .before .args .part .now)
+loop-holds c = shifting-start 1 (c .before .before .args .part .now)
 
-add-label-or-zero : tie.Need-add-label-or-zero Inv-loop μ-loop
-add-label-or-zero c = search needs
+add-part : tie.Need-add-part Inv-loop μ-loop
+add-part c = search needs
 
-label-or-zero-requires : tie.Need-label-or-zero-requires Inv-loop μ-loop
-label-or-zero-requires c κs = search needs
+slice-read-part : tie.Need-slice-read-part Inv-loop μ-loop
+slice-read-part c = search needs
 
 slice-write-part : tie.Need-slice-write-part Inv-loop μ-loop
 slice-write-part c = search needs
@@ -31,16 +31,31 @@ add-i : tie.Need-add-i Inv-loop μ-loop
 add-i c = search needs
 
 loop-less : tie.Need-loop-less Inv-loop μ-loop
-loop-less c = omega (arith, c .before .before .before .loop .inv .size)
+loop-less c = search needs
 
 loop-again : tie.Need-loop-again Inv-loop μ-loop
-loop-again c = shifting-on (c .before .before .before .loop .inv) (c .before .before .loop-test .taken) (c .label-or-zero .result) (c .label-or-zero .ensures)
+loop-again c = let l = c .before .before in shifting-on (l .loop .inv) (omega (arith, l .loop .inv .size)) _ refl
+
+sub-freed : tie.Need-sub-freed Inv-loop μ-loop
+sub-freed c = search needs
+
+sub-clear-labels : tie.Need-sub-clear-labels Inv-loop μ-loop
+sub-clear-labels c = search needs
+
+part-clear-labels-start : tie.Need-part-clear-labels-start Inv-loop μ-loop
+part-clear-labels-start c = search needs
+
+part-clear-labels-end : tie.Need-part-clear-labels-end Inv-loop μ-loop
+part-clear-labels-end c = search needs
+
+clear-labels-requires : tie.Need-clear-labels-requires Inv-loop μ-loop
+clear-labels-requires c κs = search needs
 
 same-length : tie.Need-same-length Inv-loop μ-loop
-same-length c = c .before .loop .inv .size
+same-length c = search needs
 
 returns : tie.Need-returns Inv-loop μ-loop
-returns c = shifting-end (c .before .loop .inv) (c .loop-test .left)
+returns c = let d = c .before .before in shifting-end (d .clear-labels .last .0) (d .before .before .before .loop .inv) (d .before .before .before .before .less .ensures) (d .before .before .loop-test .left) (d .clear-labels .kept .0) (d .clear-labels .ensures)
 
 pub shift-labels-forward-spec : {M : Type 1} → statement M
 shift-labels-forward-spec =
@@ -48,12 +63,18 @@ shift-labels-forward-spec =
     (tie.spec
     Inv-loop
     μ-loop
+    less-requires
     loop-holds
-    add-label-or-zero
-    label-or-zero-requires
+    add-part
+    slice-read-part
     slice-write-part
     add-i
     loop-less
     loop-again
+    sub-freed
+    sub-clear-labels
+    part-clear-labels-start
+    part-clear-labels-end
+    clear-labels-requires
     same-length
     returns)
