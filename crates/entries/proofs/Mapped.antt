@@ -13,6 +13,13 @@ use Rattle.surface.proofs.Held.{length-held, place-held, read-held, set-held, l
 use Rattle.surface.proofs.Labels.{place-map}
 use Rattle.entries.specs.Marks.{Mapped}
 
+-- every triangle in use is changed by f
+pub map-by : (f : Tri → Tri) (l cur : List ℕ) (n : ℕ) → 3 * n ≤ length l → length cur ≡ length l → ((j : ℕ) → j < n → place (held cur n) j ≡ f (place (held l n) j)) → held cur n ≡ map f (held l n)
+map-by f l cur n room e h =
+    let a = length-held cur n (omega arith) in
+    let b = length-held l n room in
+    ext-getD (tri 0 0 0) (held cur n) (map f (held l n)) (omega (arith, length-map (held l n) f)) (λ j p. h j (omega arith) ∙ sym (place-map f (held l n) j (omega arith)))
+
 -- the first i triangles are changed by f, and the others are what they were
 pub record Mapping (f : Tri → Tri) (n i : ℕ) (l cur : List ℕ) : Type 0 where
   pub size : length cur ≡ length l
@@ -51,13 +58,7 @@ module _ {f : Tri → Tri} {n i : ℕ} {l cur : List ℕ} (room : 3 * n ≤ leng
       left j p = ap (λ (k : List Tri). place k j) now ∙ getD-set-other (held cur n) i j (triOf u) (tri 0 0 0) (λ r. omega arith) ∙ s .left j (omega arith)
 
   pub mapping-end : n ≤ i → Mapped f n l cur
-  mapping-end q = record {
-    is = let a = length-held cur n fits in let b = length-held l n room in
-        ext-getD (tri 0 0 0) (held cur n) (map f (held l n)) (omega (arith, length-map (held l n) f))
-        (λ j p. s .done j (omega arith) ∙ sym (place-map f (held l n) j (omega arith)));
-    rest = s .rest;
-    size = s .size;
-  }
+  mapping-end q = record { is = map-by f l cur n room (s .size) (λ j p. s .done j (omega arith)); rest = s .rest; size = s .size }
 
 pub tri-path : {x y z x′ y′ z′ : ℕ} → x ≡ x′ → y ≡ y′ → z ≡ z′ → tri x y z ≡ tri x′ y′ z′
 tri-path e f g = λ i. record { a = e i; b = f i; c = g i }

@@ -16,25 +16,12 @@ use Rattle.surface.proofs.Labels.{skip, out-at}
 use Rattle.surface.proofs.Places.{length-without}
 use Rattle.verdicts.proofs.Notes.{cleared}
 use Rattle.entries.specs.Moved.{Zero, Forward, Backward}
+use Rattle.entries.proofs.Mapped.{tri-path}
+use Rattle.entries.proofs.Turns.{Turning}
 
 -- the words move forward, one at each turn
-pub record Shifting (by i : ℕ) (l cur : List ℕ) : Type 0 where
-  pub size : length cur ≡ length l
-  pub done : (j : ℕ) → j < i → getD cur j 0 ≡ getD l (j + by) 0
-  pub left : (j : ℕ) → i ≤ j → getD cur j 0 ≡ getD l j 0
-
-pub shifting-start : (by : ℕ) (l : List ℕ) → Shifting by 0 l l
-shifting-start by l = record { size = refl; done = λ j p. absurd (omega arith); left = λ j p. refl }
-
-pub shifting-on : {by i : ℕ} {l cur : List ℕ} → Shifting by i l cur → i < length cur → (v : ℕ) → v ≡ getD cur (i + by) 0 → Shifting by (i + 1) l (set cur i v)
-shifting-on {by} {i} {l} {cur} s f v e = record { size = length-set cur i v ∙ s .size; done = λ j p. done j p (ℕ-discrete j i); left = left }
-  where
-    done : (j : ℕ) → j < i + 1 → Dec (j ≡ i) → getD (set cur i v) j 0 ≡ getD l (j + by) 0
-    done j p (yes q) = rw q (getD-set-same cur i v 0 f ∙ e ∙ s .left (i + by) (omega arith))
-    done j p (no q) = getD-set-other cur i j v 0 q ∙ s .done j (omega (arith, q))
-
-    left : (j : ℕ) → i + 1 ≤ j → getD (set cur i v) j 0 ≡ getD l j 0
-    left j p = let q : j ≢ i = λ z. omega arith in getD-set-other cur i j v 0 q ∙ s .left j (omega arith)
+abbrev pub Shifting : ℕ → ℕ → List ℕ → List ℕ → Type 0
+Shifting by i l cur = Turning (λ (j : ℕ). getD l (j + by) 0) i l cur
 
 -- the words move back, one at each turn from the end
 pub record Sinking (by i : ℕ) (l cur : List ℕ) : Type 0 where
@@ -131,7 +118,7 @@ pub cleared-all : (k : ℕ) (w w′ : List ℕ) → length w ≡ k → w′ ≡ 
 cleared-all k w w′ e f = cleared w w′ (f ∙ ap (λ (i : ℕ). replicate i 0 ++ drop i w) (sym e))
 
 -- the words have moved as far as some follow, and what they left behind was cleared
-module _ {by i end : ℕ} {l cur : List ℕ} (part′ : List ℕ) (s : Shifting by i l cur) (e : end ≡ length l - by) where
+module _ (by : ℕ) {i end : ℕ} {l cur : List ℕ} (part′ : List ℕ) (s : Shifting by i l cur) (e : end ≡ length l - by) where
   behind-fits : end ≤ length cur
   behind-fits = omega (arith, s .size)
 
@@ -270,9 +257,6 @@ inserted-by {A} d p x xs ys f e g h k = ext-getD d ys (inserted p x xs) (e ∙ s
     pick (suc i) m (no q) (no r) = k i (omega (arith, r)) (omega arith) ∙ sym (in-behind p x xs d i (omega (arith, r)) f)
 
 -- the triangles in use, with one taken out and with one put in
-tri-path : {x y z x′ y′ z′ : ℕ} → x ≡ x′ → y ≡ y′ → z ≡ z′ → tri x y z ≡ tri x′ y′ z′
-tri-path e f g = λ i. record { a = e i; b = f i; c = g i }
-
 module _ {l l′ : List ℕ} (n p : ℕ) (room : 3 * suc n ≤ length l) (f : p ≤ n) where
   pub removed-held : Forward (3 * p) 3 l l′ → held l′ n ≡ without p (held l (suc n))
   removed-held s =

@@ -156,24 +156,15 @@ fn put_for(a: u32, b: u32, x: u32) -> u32
     if x == b { a } else { x }
 }
 
-fn renamed_in(t: [u32; 3], a: u32, b: u32) -> [u32; 3]
-    ensures { λ r. ⌜ triOf r ≡ renamed a b (triOf t) ⌝ }
-{
-    [
-        put_for(a, b, t[0]),
-        put_for(a, b, t[1]),
-        put_for(a, b, t[2]),
-    ]
-}
-
+// The same for each corner of the first n triangles.
 fn rename_all(corners: &mut [u32], n: usize, a: u32, b: u32)
     requires { ⌜ 3 * n ≤ length (now corners) ⌝ }
     ensures { λ _. ⌜ Mapped (renamed a b) n (now (corners .entry)) (now (corners .exit)) ⌝ }
 {
+    let end = 3 * n;
     let mut i = 0;
-    while i < n {
-        let t = triangle_at(corners, i);
-        put_triangle(corners, i, renamed_in(t, a, b));
+    while i < end {
+        corners[i] = put_for(a, b, corners[i]);
         i += 1;
     }
 }

@@ -1,33 +1,39 @@
 use borrow.Author.Needs.{needs}
-use Rattle.entries.proofs.Mapped.{Mapping, mapping-start, mapping-on, mapping-end}
-use Rattle.surface.specs.Edit.{renamed}
+use Rattle.entries.proofs.Words.{Wording, wording-end}
+use Rattle.entries.proofs.Turns.{turning-start, turning-on}
+use Rattle.surface.specs.Edit.{put}
+use mathlib.Core.Path.{_∙_, ap}
 use native.Mathlib.Omega.{arith}
 use Prim.Native.Nat.{_-_, _≤_}
 use Rattle.entries.proofs.rename_all.Statement.{statement}
 use Rattle.entries.proofs.rename_all.Tie as tie
-use Rattle.entries.proofs.rename_all.Reads as reads
-use Rattle.entries.proofs.rename_all.Lts as lts
-use Rattle.entries.proofs.renamed_in.Reads as renamed-in-reads
-use Rattle.surface.proofs.put_triangle.Reads as put-triangle-reads
-use Rattle.surface.proofs.triangle_at.Reads as triangle-at-reads
 
 abbrev Inv-loop : tie.InvT-loop
-Inv-loop corners₀ n a b i₀ corners i = (i ≤ n) × Mapping (renamed a b) n i corners₀ corners
+Inv-loop corners₀ n a b end i₀ corners i = (i ≤ end) × Wording (put a b) i corners₀ corners
 
 abbrev μ-loop : tie.MeasureT-loop
-μ-loop corners₀ n a b i₀ corners i = n - i
+μ-loop corners₀ n a b end i₀ corners i = end - i
+
+mul-end : tie.Need-mul-end Inv-loop μ-loop
+mul-end c = search needs
 
 loop-holds : tie.Need-loop-holds Inv-loop μ-loop
-loop-holds c = (search needs, mapping-start (renamed (c .before .args .a) (c .before .args .b)) (c .before .args .n) (c .before .args .corners .now))
+loop-holds c = (search needs, turning-start _ _)
 
-triangle-at-requires : tie.Need-triangle-at-requires Inv-loop μ-loop
-triangle-at-requires c κs = omega (arith, c .before .before .before .before .pre, c .before .before .loop .inv .1 .size, c .before .loop-test .taken)
+mul-put-for : tie.Need-mul-put-for Inv-loop μ-loop
+mul-put-for c = search needs
 
-renamed-in-requires : tie.Need-renamed-in-requires Inv-loop μ-loop
-renamed-in-requires c κs = search needs
+slice-read-put-for : tie.Need-slice-read-put-for Inv-loop μ-loop
+slice-read-put-for c = search needs
 
-put-triangle-requires : tie.Need-put-triangle-requires Inv-loop μ-loop
-put-triangle-requires c κs = omega (arith, c .before .before .before .before .before .before .before .pre, c .before .before .before .before .before .loop .inv .1 .size, c .before .before .before .before .loop-test .taken)
+put-for-requires : tie.Need-put-for-requires Inv-loop μ-loop
+put-for-requires c κs = search needs
+
+mul-corners : tie.Need-mul-corners Inv-loop μ-loop
+mul-corners c = search needs
+
+slice-write-corners : tie.Need-slice-write-corners Inv-loop μ-loop
+slice-write-corners c = search needs
 
 add-i : tie.Need-add-i Inv-loop μ-loop
 add-i c = search needs
@@ -36,13 +42,18 @@ loop-less : tie.Need-loop-less Inv-loop μ-loop
 loop-less c = search needs
 
 loop-again : tie.Need-loop-again Inv-loop μ-loop
-loop-again c = (search needs, mapping-on (c .before .before .before .before .before .before .before .before .before .before .pre) (c .before .before .before .before .before .before .before .before .loop .inv .1) (c .before .before .before .before .before .before .before .loop-test .taken) (c .before .before .before .before .before .triangle-at .result) (c .before .before .before .before .before .triangle-at .ensures) (c .before .before .before .renamed-in .result) (c .before .before .before .renamed-in .ensures) (c .before .before .put-triangle .last .0) (c .before .before .put-triangle .ensures))
+loop-again c =
+    let l = c .before .before .before in
+    let s = l .before .before in
+    (search needs, turning-on (l .loop .inv .1) (omega arith) (c .put-for .result) (c .put-for .ensures ∙ ap (put (s .args .a) (s .args .b)) (l .loop .inv .1 .left (l .loop .i) (omega arith))))
 
 same-length : tie.Need-same-length Inv-loop μ-loop
-same-length c = c .before .loop .inv .1 .size
+same-length c = search needs
 
 returns : tie.Need-returns Inv-loop μ-loop
-returns c = mapping-end (c .before .before .before .pre) (c .before .loop .inv .1) (c .loop-test .left)
+returns c =
+    let s = c .before .before .before in
+    wording-end (put (s .args .a) (s .args .b)) (s .args .n) (c .before .loop .inv .1) (omega arith) (s .pre)
 
 pub rename-all-spec : {M : Type 1} → statement M
 rename-all-spec =
@@ -50,10 +61,13 @@ rename-all-spec =
     (tie.spec
     Inv-loop
     μ-loop
+    mul-end
     loop-holds
-    triangle-at-requires
-    renamed-in-requires
-    put-triangle-requires
+    mul-put-for
+    slice-read-put-for
+    put-for-requires
+    mul-corners
+    slice-write-corners
     add-i
     loop-less
     loop-again

@@ -1,6 +1,6 @@
 use borrow.Author.Needs.{needs}
-use Rattle.entries.proofs.Moved.{Shifting, shifting-start, shifting-on, shifting-end}
-use mathlib.Core.Path.{refl}
+use Rattle.entries.proofs.Moved.{Shifting, shifting-end}
+use Rattle.entries.proofs.Turns.{turning-start, turning-on}
 use native.Mathlib.Omega.{arith}
 use Prim.Native.Nat.{_-_}
 use Rattle.entries.proofs.shift_labels_forward.Statement.{statement}
@@ -16,7 +16,7 @@ less-requires : tie.Need-less-requires Inv-loop μ-loop
 less-requires c κs = search needs
 
 loop-holds : tie.Need-loop-holds Inv-loop μ-loop
-loop-holds c = shifting-start 1 (c .before .before .args .part .now)
+loop-holds c = turning-start _ _
 
 add-part : tie.Need-add-part Inv-loop μ-loop
 add-part c = search needs
@@ -34,7 +34,7 @@ loop-less : tie.Need-loop-less Inv-loop μ-loop
 loop-less c = search needs
 
 loop-again : tie.Need-loop-again Inv-loop μ-loop
-loop-again c = let l = c .before .before in shifting-on (l .loop .inv) (omega (arith, l .loop .inv .size)) _ refl
+loop-again c = let l = c .before .before in turning-on (l .loop .inv) (omega (arith, l .loop .inv .size)) _ (l .loop .inv .left _ (omega arith))
 
 sub-freed : tie.Need-sub-freed Inv-loop μ-loop
 sub-freed c = search needs
@@ -55,7 +55,7 @@ same-length : tie.Need-same-length Inv-loop μ-loop
 same-length c = search needs
 
 returns : tie.Need-returns Inv-loop μ-loop
-returns c = let d = c .before .before in shifting-end (d .clear-labels .last .0) (d .before .before .before .loop .inv) (d .before .before .before .before .less .ensures) (d .before .before .loop-test .left) (d .clear-labels .kept .0) (d .clear-labels .ensures)
+returns c = let d = c .before .before in shifting-end 1 (d .clear-labels .last .0) (d .before .before .before .loop .inv) (d .before .before .before .before .less .ensures) (d .before .before .loop-test .left) (d .clear-labels .kept .0) (d .clear-labels .ensures)
 
 pub shift-labels-forward-spec : {M : Type 1} → statement M
 shift-labels-forward-spec =
