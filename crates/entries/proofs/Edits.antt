@@ -12,9 +12,10 @@ use Rattle.history.specs.History.{Pair, collapsed, made}
 use Rattle.history.specs.Flat.{pairOf, entryOf}
 use Rattle.verdicts.specs.Found.{hingeOf, Places, Hung}
 use Rattle.verdicts.specs.declared.Found.{Found}
-use Rattle.entries.specs.Moved.{Zero, Forward, Reduced}
+use Rattle.entries.specs.Moved.{Zero, Dropped, Reduced}
 use Rattle.entries.specs.Marks.{Mapped}
-use Rattle.entries.proofs.Moved.{forward-zero, drop-same-zero, removed-held, removed-take}
+use Rattle.entries.proofs.Moved.{drop-same-zero}
+use Rattle.entries.proofs.Dropped.{dropped-zero, dropped-held, dropped-take}
 
 -- two triangles put at their places
 pub two-put : (l : List ℕ) {n p q : ℕ} (t s : Tri) (r : List ℕ) → 3 * n ≤ length l → p < n → q < n → r ≡ putAt (putAt l p t) q s → held r n ≡ set (set (held l n) p t) q s
@@ -46,56 +47,39 @@ map-out f i [] = refl
 map-out f zero (t ∷ ts) = refl
 map-out f (suc i) (t ∷ ts) = ap (λ (k : List Tri). f t ∷ k) (map-out f i ts)
 
-module _ {l ls : List ℕ} {n a b : ℕ} (f : Found) (h : Hung l ls n a b f) {l1 l2 l3 ls1 ls2 : List ℕ} (m1 : Mapped (renamed a b) n l l1)
-    (m2 : Forward (3 * f .p2) 3 l1 l2) (m3 : Forward (3 * f .p1) 3 l2 l3) (n1 : Forward (f .p2) 1 ls ls1) (n2 : Forward (f .p1) 1 ls1 ls2) where
+module _ {l ls : List ℕ} {n a b : ℕ} (f : Found) (h : Hung l ls n a b f) {l1 l2 ls1 : List ℕ} (m1 : Mapped (renamed a b) n l l1)
+    (m2 : Dropped (3 * f .p1) (3 * f .p2) 3 l1 l2) (n1 : Dropped (f .p1) (f .p2) 1 ls ls1) where
   order : f .p1 < f .p2
   order = h .places .order
 
   fits : f .p2 < n
   fits = h .places .fits
 
-  room : 3 * n ≤ length l1
-  room = omega (arith, h .ready .room, m1 .size)
+  count : n - 2 + 2 ≡ n
+  count = omega (arith, order, fits)
 
-  tris-made : held l3 (n - 2) ≡ map (renamed a b) (without (f .p1) (without (f .p2) (held l n)))
+  tris-made : held l2 (n - 2) ≡ map (renamed a b) (without (f .p1) (without (f .p2) (held l n)))
   tris-made =
-      let o = order in
-      let t = fits in
-      let r = room in
-      let i : suc (n - 1) ≡ n = omega arith in
-      let j : suc (n - 2) ≡ n - 1 = omega arith in
-      removed-held (n - 2) (f .p1) (omega (arith, m2 .size)) (omega arith) m3
-      ∙ ap (λ (k : ℕ). without (f .p1) (held l2 k)) j ∙ ap (without (f .p1)) (removed-held (n - 1) (f .p2) (omega arith) (omega arith) m2 ∙ ap (λ (k : ℕ). without (f .p2) (held l1 k)) i ∙ ap (without (f .p2)) (m1 .is))
+      dropped-held l1 l2 n (n - 2) (f .p1) (f .p2) count (omega (arith, h .ready .room, m1 .size)) order fits m2 ∙ ap (λ (k : List Tri). without (f .p1) (without (f .p2) k)) (m1 .is)
       ∙ sym (map-out (renamed a b) (f .p1) (without (f .p2) (held l n)) ∙ ap (without (f .p1)) (map-out (renamed a b) (f .p2) (held l n)))
 
-  labels-made : take (n - 2) ls2 ≡ without (f .p1) (without (f .p2) (take n ls))
-  labels-made =
-      let o = order in
-      let t = fits in
-      let r = h .labels in
-      let i : suc (n - 1) ≡ n = omega arith in
-      let j : suc (n - 2) ≡ n - 1 = omega arith in
-      removed-take (n - 2) (f .p1) (omega (arith, n1 .size)) (omega arith) n2
-      ∙ ap (λ (k : ℕ). without (f .p1) (take k ls1)) j ∙ ap (without (f .p1)) (removed-take (n - 1) (f .p2) (omega arith) (omega arith) n1 ∙ ap (λ (k : ℕ). without (f .p2) (take k ls)) i)
+  labels-made : take (n - 2) ls1 ≡ without (f .p1) (without (f .p2) (take n ls))
+  labels-made = dropped-take ls ls1 n (n - 2) (f .p1) (f .p2) count (h .labels) order fits n1
 
-  pub collapse-made : Reduced l ls n a b l3 ls2 (n - 2)
+  pub collapse-made : Reduced l ls n a b l2 ls1 (n - 2)
   unfolding collapse
   collapse-made =
-      let o = order in
       let t = fits in
-      let i : 3 * (n - 1) + 3 ≡ 3 * n = omega arith in
-      let j : 3 * (n - 2) + 3 ≡ 3 * (n - 1) = omega arith in
-      let i′ : n - 1 + 1 ≡ n = omega arith in
-      let j′ : n - 2 + 1 ≡ n - 1 = omega arith in
+      let i : 3 * n ≡ 3 * (n - 2) + 3 + 3 = omega (arith, count) in
+      let j : n ≡ n - 2 + 1 + 1 = omega (arith, count) in
       record {
-        count = omega arith;
+        count = count;
         is = λ q. record {
           tris = (tris-made ∙ ap (λ (g : Hinge). map (renamed a b) (without (g .p1) (without (g .p2) (held l n)))) (h .is)) q;
           labels = (labels-made ∙ ap (λ (g : Hinge). without (g .p1) (without (g .p2) (take n ls))) (h .is)) q;
         };
-        freed = λ z. forward-zero (3 * (n - 2)) m3 (omega arith)
-            (subst (λ (k : ℕ). Zero k l2) (sym j) (forward-zero (3 * (n - 1)) m2 (omega arith) (subst (λ (k : ℕ). Zero k l1) (sym i) (drop-same-zero (3 * n) l l1 (m1 .rest) z))));
-        unlabelled = λ z. forward-zero (n - 2) n2 (omega arith) (subst (λ (k : ℕ). Zero k ls1) (sym j′) (forward-zero (n - 1) n1 (omega arith) (subst (λ (k : ℕ). Zero k ls) (sym i′) z)));
+        freed = λ z. dropped-zero (3 * (n - 2)) m2 (omega (arith, count)) (subst (λ (k : ℕ). Zero k l1) i (drop-same-zero (3 * n) l l1 (m1 .rest) z));
+        unlabelled = λ z. dropped-zero (n - 2) n1 (omega (arith, count)) (subst (λ (k : ℕ). Zero k ls) j z);
       }
 
 -- the same where the places and the triangles were computed

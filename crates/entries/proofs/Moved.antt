@@ -1,19 +1,17 @@
--- Parts of lists moved forward and back, a place at a time; a triangle or a label taken out, or put in.
+-- Parts of lists moved forward and back, a place at a time; a triangle or a label put in.
 use Prim.Native.Nat.{ℕ, zero, suc, _+_, _*_, _-_, _≤_, _<_}
 use mathlib.Core.Path.{_≡_, refl, sym, _∙_, ap, subst}
 use mathlib.Core.Logic.{_≢_}
 use mathlib.Core.List.{List, [], _∷_, _++_}
 use native.Mathlib.Omega.{arith}
 use native.Mathlib.Decide.{ℕ-discrete, decLt}
-use lib.ListN.{length, getD, take, drop, set, replicate, length-set, length-append, length-drop, length-replicate, getD-replicate, List·getD-eq-default, List·getD-append, drop-of-length-le}
+use lib.ListN.{length, getD, take, drop, set, replicate, length-set, length-append, length-drop, length-replicate, List·getD-eq-default, List·getD-append, drop-of-length-le}
 use lib.Seq.{length-take-le, take-all, getD-take, getD-drop, getD-set-same, getD-set-other, getD-append-add, ext-getD}
 use Rattle.surface.specs.Triangle.{Tri, tri}
-use Rattle.surface.specs.Edit.{without, place}
+use Rattle.surface.specs.Edit.{place}
 use Rattle.surface.specs.Flat.{held, triAt, putAt}
 use Rattle.surface.proofs.Held.{length-held, place-held, set-held, length-put}
 use Rattle.history.specs.Undo.{inserted}
-use Rattle.surface.proofs.Labels.{skip, out-at}
-use Rattle.surface.proofs.Places.{length-without}
 use Rattle.verdicts.proofs.Notes.{cleared}
 use Rattle.entries.specs.Moved.{Zero, Forward, Backward}
 use Rattle.entries.proofs.Mapped.{tri-path}
@@ -60,13 +58,13 @@ module _ (q : ℕ) (l part′ l′ : List ℕ) (f : q ≤ length l) (e : l′ �
   front : length (take q l) ≡ q
   front = length-take-le q l f
 
-  at-front : (j : ℕ) → j < q → getD l′ j 0 ≡ getD l j 0
+  pub at-front : (j : ℕ) → j < q → getD l′ j 0 ≡ getD l j 0
   at-front j p = ap (λ (k : List ℕ). getD k j 0) e ∙ List·getD-append (take q l) part′ 0 j (omega (arith, front)) ∙ getD-take q l j 0 p
 
-  at-part : (j : ℕ) → getD l′ (q + j) 0 ≡ getD part′ j 0
+  pub at-part : (j : ℕ) → getD l′ (q + j) 0 ≡ getD part′ j 0
   at-part j = ap (λ (k : List ℕ). getD k (q + j) 0) e ∙ ap (λ (k : ℕ). getD (take q l ++ part′) (k + j) 0) (sym front) ∙ getD-append-add (take q l) part′ j 0
 
-  whole-size : length part′ ≡ length (drop q l) → length l′ ≡ length l
+  pub whole-size : length part′ ≡ length (drop q l) → length l′ ≡ length l
   whole-size g = omega (arith, ap length e, length-append (take q l) part′, front, length-drop q l)
 
   forward-whole : {by : ℕ} → Forward 0 by (drop q l) part′ → Forward q by l l′
@@ -184,9 +182,6 @@ pub zero-drop : (k : ℕ) (l : List ℕ) → Zero k l → drop k l ≡ replicate
 zero-drop k l z = ext-getD 0 (drop k l) (replicate (length l - k) 0) (length-drop k l ∙ sym (length-replicate (length l - k) 0))
     (λ i p. getD-drop k l i 0 ∙ z (k + i) (omega arith) ∙ sym (zeros (length l - k) i))
 
-pub forward-zero : {q by : ℕ} {l l′ : List ℕ} (k : ℕ) → Forward q by l l′ → q ≤ k → Zero (k + by) l → Zero k l′
-forward-zero k s p z j m = s .moved j (omega arith) ∙ z _ (omega arith)
-
 pub backward-zero : {q by : ℕ} {l l′ : List ℕ} (k : ℕ) → Backward q by l l′ → q ≤ k → Zero k l → Zero (k + by) l′
 backward-zero {q} {by} {l} {l′} k s p z j m = pick (decLt j (length l))
   where
@@ -199,27 +194,7 @@ drop-same-zero k l l′ e z j p =
     let h : k + (j - k) ≡ j = omega arith in
     sym (ap (λ (i : ℕ). getD l′ i 0) h) ∙ sym (getD-drop k l′ (j - k) 0) ∙ ap (λ (m : List ℕ). getD m (j - k) 0) e ∙ getD-drop k l (j - k) 0 ∙ ap (λ (i : ℕ). getD l i 0) h ∙ z j p
 
--- a list without one of its entries, and with one more, by the entries
-skip-far : (p i : ℕ) → p ≤ i → skip p i ≡ suc i
-unfolding skip
-skip-far zero i q = refl
-skip-far (suc p) zero q = absurd (omega arith)
-skip-far (suc p) (suc i) q = ap suc (skip-far p i (omega arith))
-
-skip-near : (p i : ℕ) → i < p → skip p i ≡ i
-unfolding skip
-skip-near zero i q = absurd (omega arith)
-skip-near (suc p) zero q = refl
-skip-near (suc p) (suc i) q = ap suc (skip-near p i (omega arith))
-
-pub without-by : {A : Type 0} (d : A) (p : ℕ) (xs ys : List A) → p < length xs → suc (length ys) ≡ length xs → ((i : ℕ) → i < p → getD ys i d ≡ getD xs i d)
-    → ((i : ℕ) → p ≤ i → i < length ys → getD ys i d ≡ getD xs (suc i) d) → ys ≡ without p xs
-without-by {A} d p xs ys f e g h = let o = length-without xs p f in ext-getD d ys (without p xs) (omega arith) (λ i m. pick i m (decLt i p) ∙ sym (out-at xs p i d))
-  where
-    pick : (i : ℕ) → i < length ys → Dec (i < p) → getD ys i d ≡ getD xs (skip p i) d
-    pick i m (yes q) = g i q ∙ ap (λ (j : ℕ). getD xs j d) (sym (skip-near p i q))
-    pick i m (no q) = h i (omega arith) m ∙ ap (λ (j : ℕ). getD xs j d) (sym (skip-far p i (omega arith)))
-
+-- a list with one more entry, by the entries
 length-in : {A : Type 0} (p : ℕ) (x : A) (l : List A) → length (inserted p x l) ≡ suc (length l)
 unfolding inserted
 length-in zero x l = refl
@@ -256,21 +231,8 @@ inserted-by {A} d p x xs ys f e g h k = ext-getD d ys (inserted p x xs) (e ∙ s
     pick zero m (no q) (no r) = absurd (r (omega arith))
     pick (suc i) m (no q) (no r) = k i (omega (arith, r)) (omega arith) ∙ sym (in-behind p x xs d i (omega (arith, r)) f)
 
--- the triangles in use, with one taken out and with one put in
+-- the triangles in use, with one put in
 module _ {l l′ : List ℕ} (n p : ℕ) (room : 3 * suc n ≤ length l) (f : p ≤ n) where
-  pub removed-held : Forward (3 * p) 3 l l′ → held l′ n ≡ without p (held l (suc n))
-  removed-held s =
-      let z = s .size in
-      let a : length (held l′ n) ≡ n = length-held l′ n (omega arith) in
-      let b : length (held l (suc n)) ≡ suc n = length-held l (suc n) room in
-      without-by (tri 0 0 0) p (held l (suc n)) (held l′ n) (omega arith) (omega arith)
-      (λ i m. place-held l′ n i (omega arith) (omega arith) ∙ tri-path (s .before (3 * i) (omega arith)) (s .before (3 * i + 1) (omega arith)) (s .before (3 * i + 2) (omega arith))
-      ∙ sym (place-held l (suc n) i room (omega arith)))
-      (λ i m r. place-held l′ n i (omega arith) (omega arith) ∙ tri-path (behind (3 * i) (3 * suc i) (omega arith) (omega arith)) (behind (3 * i + 1) (3 * suc i + 1) (omega arith) (omega arith)) (behind (3 * i + 2) (3 * suc i + 2) (omega arith) (omega arith)) ∙ sym (place-held l (suc n) (suc i) room (omega arith)))
-    where
-      behind : (x y : ℕ) → 3 * p ≤ x → x + 3 ≡ y → getD l′ x 0 ≡ getD l y 0
-      behind x y m h = s .moved x m ∙ ap (λ (j : ℕ). getD l j 0) h
-
   pub inserted-held : Backward (3 * p) 3 l l′ → (t : Tri) → triAt l′ p ≡ t → held l′ (suc n) ≡ inserted p t (held l n)
   inserted-held s t e =
       let z = s .size in
@@ -287,15 +249,6 @@ module _ {l l′ : List ℕ} (n p : ℕ) (room : 3 * suc n ≤ length l) (f : p 
 
 -- the labels in use likewise
 module _ {l l′ : List ℕ} (n p : ℕ) (room : suc n ≤ length l) (f : p ≤ n) where
-  pub removed-take : Forward p 1 l l′ → take n l′ ≡ without p (take (suc n) l)
-  removed-take s =
-      let z = s .size in
-      let a : length (take n l′) ≡ n = length-take-le n l′ (omega arith) in
-      let b : length (take (suc n) l) ≡ suc n = length-take-le (suc n) l room in
-      without-by 0 p (take (suc n) l) (take n l′) (omega arith) (omega arith)
-      (λ i m. getD-take n l′ i 0 (omega arith) ∙ s .before i m ∙ sym (getD-take (suc n) l i 0 (omega arith)))
-      (λ i m r. let h : i + 1 ≡ suc i = omega arith in getD-take n l′ i 0 (omega arith) ∙ s .moved i m ∙ ap (λ (j : ℕ). getD l j 0) h ∙ sym (getD-take (suc n) l (suc i) 0 (omega arith)))
-
   pub inserted-take : Backward p 1 l l′ → (x : ℕ) → getD l′ p 0 ≡ x → take (suc n) l′ ≡ inserted p x (take n l)
   inserted-take s x e =
       let z = s .size in

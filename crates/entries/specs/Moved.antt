@@ -23,6 +23,13 @@ pub record Backward (q by : ℕ) (l l′ : List ℕ) : Type 0 where
   pub before : (j : ℕ) → j < q → getD l′ j 0 ≡ getD l j 0
   pub moved : (j : ℕ) → q ≤ j → j + by < length l → getD l′ (j + by) 0 ≡ getD l j 0
 
+-- what stood in the by places from p on and from q on is gone: what stood between has moved forward by as many, what stood behind by twice as many; 0 came in at the end
+pub record Dropped (p q by : ℕ) (l l′ : List ℕ) : Type 0 where
+  pub size : length l′ ≡ length l
+  pub before : (j : ℕ) → j < p → getD l′ j 0 ≡ getD l j 0
+  pub between : (j : ℕ) → p ≤ j → j + by < q → getD l′ j 0 ≡ getD l (j + by) 0
+  pub behind : (j : ℕ) → q ≤ j + by → getD l′ j 0 ≡ getD l (j + by + by) 0
+
 -- after a collapse on the lists: n triangles were in use, m are
 pub record Reduced (l ls : List ℕ) (n a b : ℕ) (l′ ls′ : List ℕ) (m : ℕ) : Type 0 where
   pub count : m + 2 ≡ n

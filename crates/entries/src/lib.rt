@@ -26,7 +26,7 @@ ghost use Rattle.history.specs.Flat.{pairOf, entryOf};
 ghost use Rattle.history.specs.Entry.{Standing, Edited, Undoable, TakenBack};
 ghost use Rattle.verdicts.specs.Found.{Hung};
 ghost use Rattle.verdicts.specs.Notes.{On, Listed};
-ghost use Rattle.entries.specs.Moved.{Zero, Forward, Backward, Reduced};
+ghost use Rattle.entries.specs.Moved.{Forward, Backward, Dropped, Reduced};
 ghost use Rattle.entries.specs.Marks.{Marked, Routed, againBy, restoredBy, Mapped};
 ghost use Rattle.entries.specs.Undoes.{firstOf, secondOf, Unflips, Uncollapses, Restored};
 
@@ -78,14 +78,14 @@ fn clear_labels(labels: &mut [u8], count: usize)
     }
 }
 
-// The labels move forward by one place; 0 comes in at the end.
-fn shift_labels_forward(part: &mut [u8])
-    ensures { λ _. ⌜ Forward 0 1 (now (part .entry)) (now (part .exit)) ⌝ }
+// The labels move forward by some places; 0 comes in at the end.
+fn shift_labels_forward(part: &mut [u8], by: usize)
+    ensures { λ _. ⌜ Forward 0 by (now (part .entry)) (now (part .exit)) ⌝ }
 {
-    let end = less(part.len(), 1);
+    let end = less(part.len(), by);
     let mut i = 0;
     while i < end {
-        part[i] = part[i + 1];
+        part[i] = part[i + by];
         i += 1;
     }
     let freed = part.len() - end;
@@ -104,21 +104,26 @@ fn shift_labels_back(part: &mut [u8])
     }
 }
 
-// The triangle at a place goes, and those behind it move forward.
-fn remove_triangle(corners: &mut [u32], p: usize)
-    requires { ⌜ 3 * p + 2 < length (now corners) ⌝ }
-    ensures { λ _. ⌜ Forward (3 * p) 3 (now (corners .entry)) (now (corners .exit)) ⌝ }
+// The triangles at p and q go. Those between them move forward by one place; then those behind both move by two, to the place that this freed.
+fn remove_triangles(corners: &mut [u32], p: usize, q: usize)
+    requires { ⌜ (p < q) × (3 * q + 2 < length (now corners)) ⌝ }
+    ensures { λ _. ⌜ Dropped (3 * p) (3 * q) 3 (now (corners .entry)) (now (corners .exit)) ⌝ }
 {
-    let k = 3 * p;
-    shift_forward(&mut corners[k..], 3);
+    let i = 3 * p;
+    let j = 3 * q;
+    let k = j - 3;
+    shift_forward(&mut corners[i..j], 3);
+    shift_forward(&mut corners[k..], 6);
 }
 
-// The label at a place goes, and those behind it move forward.
-fn remove_label(labels: &mut [u8], p: usize)
-    requires { ⌜ p < length (now labels) ⌝ }
-    ensures { λ _. ⌜ Forward p 1 (now (labels .entry)) (now (labels .exit)) ⌝ }
+// The labels at p and q go likewise.
+fn remove_labels(labels: &mut [u8], p: usize, q: usize)
+    requires { ⌜ (p < q) × (q < length (now labels)) ⌝ }
+    ensures { λ _. ⌜ Dropped p q 1 (now (labels .entry)) (now (labels .exit)) ⌝ }
 {
-    shift_labels_forward(&mut labels[p..]);
+    let k = q - 1;
+    shift_labels_forward(&mut labels[p..q], 1);
+    shift_labels_forward(&mut labels[k..], 2);
 }
 
 // A triangle is put in at a place, and those from there on move back.
@@ -175,10 +180,8 @@ fn collapse_in(corners: &mut [u32], labels: &mut [u8], n: usize, a: u32, b: u32,
     ensures { λ r. ⌜ Reduced (now (corners .entry)) (now (labels .entry)) n a b (now (corners .exit)) (now (labels .exit)) r ⌝ }
 {
     rename_all(corners, n, a, b);
-    remove_triangle(corners, h.p2);
-    remove_triangle(corners, h.p1);
-    remove_label(labels, h.p2);
-    remove_label(labels, h.p1);
+    remove_triangles(corners, h.p1, h.p2);
+    remove_labels(labels, h.p1, h.p2);
     n - 2
 }
 

@@ -7,10 +7,10 @@ use Rattle.entries.proofs.shift_labels_forward.Statement.{statement}
 use Rattle.entries.proofs.shift_labels_forward.Tie as tie
 
 abbrev Inv-loop : tie.InvT-loop
-Inv-loop part₀ end i₀ part i = Shifting 1 i part₀ part
+Inv-loop part₀ by end i₀ part i = Shifting by i part₀ part
 
 abbrev μ-loop : tie.MeasureT-loop
-μ-loop part₀ end i₀ part i = end - i
+μ-loop part₀ by end i₀ part i = end - i
 
 less-requires : tie.Need-less-requires Inv-loop μ-loop
 less-requires c κs = search needs
@@ -55,7 +55,7 @@ same-length : tie.Need-same-length Inv-loop μ-loop
 same-length c = search needs
 
 returns : tie.Need-returns Inv-loop μ-loop
-returns c = let d = c .before .before in shifting-end 1 (d .clear-labels .last .0) (d .before .before .before .loop .inv) (d .before .before .before .before .less .ensures) (d .before .before .loop-test .left) (d .clear-labels .kept .0) (d .clear-labels .ensures)
+returns c = let d = c .before .before in shifting-end (d .before .before .before .before .before .before .args .by) (d .clear-labels .last .0) (d .before .before .before .loop .inv) (d .before .before .before .before .less .ensures) (d .before .before .loop-test .left) (d .clear-labels .kept .0) (d .clear-labels .ensures)
 
 pub shift-labels-forward-spec : {M : Type 1} → statement M
 shift-labels-forward-spec =
