@@ -1,14 +1,13 @@
 -- The tests that a program makes around the side, in place of the test of the whole list that an edit would make. Definitions only.
 use Prim.Native.Nat.{ℕ}
-use mathlib.Core.Bool.{Bool, true, false, not, _&&_, _||_, cond}
-use mathlib.Core.List.{List, [], _∷_}
-use lib.Dec.{eqb, leb, ltb}
+use mathlib.Core.Bool.{Bool, not, _&&_, _||_, cond}
+use mathlib.Core.List.{List}
+use lib.Dec.{eqb}
 use lib.ListN.{length}
-use Rattle.surface.specs.Triangle.{Tri, names}
+use Rattle.surface.specs.Triangle.{Tri}
 use Rattle.surface.specs.Closed.{sides, Step, around}
-use Rattle.surface.specs.Edit.{Hinge, hinge}
+use Rattle.surface.specs.Edit.{hinge}
 use Rattle.surface.specs.Check.{every}
-use Rattle.surface.specs.Label.{carries}
 use Rattle.history.specs.History.{Pair, Entry, covered, exists, label}
 
 -- the first number that is not 0
@@ -43,13 +42,6 @@ flipWord p a b space =
 
 abbrev pub collapseWord : Pair → ℕ → ℕ → Bool → ℕ
 collapseWord p a b space = else (cond (covered p a b) 0 24) (else (cond (collapse? (p .tris) a b) 0 25) (cond space 0 27))
-
--- Every label of b is one of a, read from the triangles that name b and their labels.
-unfoldable pub cover? : Pair → ℕ → ℕ → List Tri → List ℕ → Bool
-unfolding carries
-cover? p a b [] ls = true
-cover? p a b (t ∷ ts) [] = true
-cover? p a b (t ∷ ts) (l ∷ ls) = (not (names t b) || carries (p .tris) (p .labels) a l) && cover? p a b ts ls
 
 -- the verdict word of a flip or collapse by these tests
 abbrev pub editWord : Pair → Entry → Bool → ℕ
