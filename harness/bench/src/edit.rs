@@ -6,7 +6,7 @@ use differential::{
     surfaces::{Surface, bipyramid, torus},
 };
 
-const CALLS: u32 = 5;
+const CALLS: u32 = 40;
 const ENTRIES: usize = 60;
 
 type Side = [u32; 2];
