@@ -54,6 +54,9 @@ fn passes(factor: f64, minimum: f64, d: f64, sum: f64) -> bool
     ensures { λ r. ⌜ (r ≡ true → Passes minimum d sum) ⌝ }
 {
     let s = minimum * sum * 0.2886751348;
+    if !(s * s < d) {
+        return false;
+    }
     if !sized(minimum) {
         return false;
     }
@@ -66,11 +69,7 @@ fn passes(factor: f64, minimum: f64, d: f64, sum: f64) -> bool
     if !sized(s) {
         return false;
     }
-    if s * s < d {
-        minimum <= factor * s / sum
-    } else {
-        false
-    }
+    minimum <= factor * s / sum
 }
 
 // The least quality with the triangle a, b, c, where minimum is the least so far.

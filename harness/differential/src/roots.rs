@@ -66,8 +66,9 @@ pub const WAYS: [&str; 4] = ["guess", "above", "below", "digits"];
 pub fn way(bits: u64) -> usize {
     let exponent = 1023 + u64::from(bits >> 52 & 1 == 0);
     let x = f64::from_bits((exponent << 52) | bits & FRACTION);
-    let first = 0.5185546 + x * (0.5260097 - x * 0.0395401);
-    let guess = (0..3).fold(first, |y, _| 0.5 * (y + x / y));
+    let outer = 0.07726019 * x - 0.28001561 + x * x * (0.00079574 * x - 0.0121293);
+    let first = 0.34354 + 0.87061227 * x + x * x * outer;
+    let guess = (0..2).fold(first, |y, _| 0.5 * (y + x / y));
     let [root, guess] = [x.sqrt(), guess].map(|y| (y.to_bits() & FRACTION) as i64);
     match root - guess {
         0 => 0,

@@ -7,14 +7,14 @@ use Rattle.float.proofs.guess.guess.Tie as tie
 fraction-requires : tie.Need-fraction-requires
 fraction-requires c κs = search needs
 
+first-requires : tie.Need-first-requires
+first-requires c κs = search needs
+
 heron-requires : tie.Need-heron-requires
 heron-requires c κs = search needs
 
 heron-requires-2 : tie.Need-heron-requires-2
 heron-requires-2 c κs = search needs
-
-heron-requires-3 : tie.Need-heron-requires-3
-heron-requires-3 c κs = search needs
 
 returns : tie.Need-returns
 returns c = search needs
@@ -33,9 +33,9 @@ guess-spec =
     tie.close
     (tie.spec
     fraction-requires
+    first-requires
     heron-requires
     heron-requires-2
-    heron-requires-3
     returns
     float-to-bits-result
     add-result
