@@ -33,6 +33,16 @@ module _ {A : Type 0} (p : A → Bool) (d : A) where
   pub all-out : (l : List A) (i : ℕ) → i < length l → p (getD l i d) ≡ false → every p (drop i l) ≡ false
   all-out l i h t = all-more l i h ∙ ap (λ (z : Bool). z && every p (drop (i + 1) l)) t
 
+  -- the same where a says of those before i whether all pass
+  pub all-and : (l : List A) (i : ℕ) (a r w : Bool) → i < length l → r ≡ p (getD l i d) → (a && every p (drop i l)) ≡ w → ((r && a) && every p (drop (i + 1) l)) ≡ w
+  all-and l i a r w h e f = swap a r (every p (drop (i + 1) l)) ∙ ap (λ (z : Bool). a && (z && every p (drop (i + 1) l))) e ∙ ap (λ (z : Bool). a && z) (sym (all-more l i h)) ∙ f
+    where
+      swap : (a r z : Bool) → ((r && a) && z) ≡ (a && (r && z))
+      swap true true z = refl
+      swap true false z = refl
+      swap false true z = refl
+      swap false false z = refl
+
 pub all-done : {A : Type 0} (p : A → Bool) (l : List A) (i : ℕ) → length l ≤ i → every p (drop i l) ≡ true
 unfolding every
 all-done p l i h = ap (every p) (drop-of-length-le l h)

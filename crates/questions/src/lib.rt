@@ -8,18 +8,17 @@ ghost use Rattle.surface.specs.Check.{every};
 ghost use Rattle.questions.specs.Questions.{lentNumber, known?, listed?, Admits};
 ghost use Rattle.questions.specs.Stages.{Sized, Listed, opp, Marked, BeforeRules, Further};
 
-// Whether every value is finite.
+// Whether every value is finite. With no way out of the loop, several are tested at a time.
 fn all_finite(points: &[f64]) -> bool
     ensures { λ r. ⌜ r ≡ every isFinite (now (points .entry)) ⌝ }
 {
+    let mut all = true;
     let mut i: usize = 0;
     while i < points.len() {
-        if !float::is_finite(points[i]) {
-            return false;
-        }
+        all = float::is_finite(points[i]) & all;
         i += 1;
     }
-    true
+    all
 }
 
 // Questions 1 to 4: the number of the first that is answered by "no", or 0.
