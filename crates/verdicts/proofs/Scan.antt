@@ -152,19 +152,6 @@ count-end l n i v s w p q r f =
     let h : s ≡ w = omega (arith, ap length (drop-end l n i v p q r)) in
     ap (λ (x : ℕ). eqb x 3) h
 
-pub apart-c : (k i j : Bool) → i ≡ true → true ≡ (k || (i || j))
-apart-c true i j e = refl
-apart-c false i j e = rw e
-
-pub apart-d : (k i j : Bool) → j ≡ true → true ≡ (k || (i || j))
-apart-d true i j e = refl
-apart-d false true j e = refl
-apart-d false false j e = sym e
-
-pub apart-n : (k i j : Bool) → i ≡ false → j ≡ false → k ≡ (k || (i || j))
-apart-n true i j e f = refl
-apart-n false i j e f = rw (e, f)
-
 -- the three steps of a triangle, one test after the other
 module _ (f : Step → Bool) (t : Tri) (a : ℕ) (k1 : Bool) (e1 : k1 ≡ (not (eqb (t .a) a) || f (step (t .b) (t .c)))) where
   pub three-first : k1 ≡ false → false ≡ every f (around (t ∷ []) a)
