@@ -12,10 +12,10 @@ use Rattle.history.specs.History.{Pair, collapsed, made}
 use Rattle.history.specs.Flat.{pairOf, entryOf}
 use Rattle.verdicts.specs.Found.{hingeOf, Places, Hung}
 use Rattle.verdicts.specs.declared.Found.{Found}
-use Rattle.entries.specs.Moved.{Zero, Dropped, Reduced}
+use Rattle.entries.specs.Moved.{Zero, TakenOut, Reduced}
 use Rattle.entries.specs.Marks.{Mapped}
 use Rattle.entries.proofs.Moved.{drop-same-zero}
-use Rattle.entries.proofs.Dropped.{dropped-zero, dropped-held, dropped-take}
+use Rattle.entries.proofs.TakenOut.{taken-out-zero, taken-out-held, taken-out-take}
 
 -- two triangles put at their places
 pub two-put : (l : List ℕ) {n p q : ℕ} (t s : Tri) (r : List ℕ) → 3 * n ≤ length l → p < n → q < n → r ≡ putAt (putAt l p t) q s → held r n ≡ set (set (held l n) p t) q s
@@ -48,7 +48,7 @@ map-out f zero (t ∷ ts) = refl
 map-out f (suc i) (t ∷ ts) = ap (λ (k : List Tri). f t ∷ k) (map-out f i ts)
 
 module _ {l ls : List ℕ} {n a b : ℕ} (f : Found) (h : Hung l ls n a b f) {l1 l2 ls1 : List ℕ} (m1 : Mapped (renamed a b) n l l1)
-    (m2 : Dropped (3 * f .p1) (3 * f .p2) 3 l1 l2) (n1 : Dropped (f .p1) (f .p2) 1 ls ls1) where
+    (m2 : TakenOut (3 * f .p1) (3 * f .p2) 3 l1 l2) (n1 : TakenOut (f .p1) (f .p2) 1 ls ls1) where
   order : f .p1 < f .p2
   order = h .places .order
 
@@ -60,11 +60,11 @@ module _ {l ls : List ℕ} {n a b : ℕ} (f : Found) (h : Hung l ls n a b f) {l1
 
   tris-made : held l2 (n - 2) ≡ map (renamed a b) (without (f .p1) (without (f .p2) (held l n)))
   tris-made =
-      dropped-held l1 l2 n (n - 2) (f .p1) (f .p2) count (omega (arith, h .ready .room, m1 .size)) order fits m2 ∙ ap (λ (k : List Tri). without (f .p1) (without (f .p2) k)) (m1 .is)
+      taken-out-held l1 l2 n (n - 2) (f .p1) (f .p2) count (omega (arith, h .ready .room, m1 .size)) order fits m2 ∙ ap (λ (k : List Tri). without (f .p1) (without (f .p2) k)) (m1 .is)
       ∙ sym (map-out (renamed a b) (f .p1) (without (f .p2) (held l n)) ∙ ap (without (f .p1)) (map-out (renamed a b) (f .p2) (held l n)))
 
   labels-made : take (n - 2) ls1 ≡ without (f .p1) (without (f .p2) (take n ls))
-  labels-made = dropped-take ls ls1 n (n - 2) (f .p1) (f .p2) count (h .labels) order fits n1
+  labels-made = taken-out-take ls ls1 n (n - 2) (f .p1) (f .p2) count (h .labels) order fits n1
 
   pub collapse-made : Reduced l ls n a b l2 ls1 (n - 2)
   unfolding collapse
@@ -78,8 +78,8 @@ module _ {l ls : List ℕ} {n a b : ℕ} (f : Found) (h : Hung l ls n a b f) {l1
           tris = (tris-made ∙ ap (λ (g : Hinge). map (renamed a b) (without (g .p1) (without (g .p2) (held l n)))) (h .is)) q;
           labels = (labels-made ∙ ap (λ (g : Hinge). without (g .p1) (without (g .p2) (take n ls))) (h .is)) q;
         };
-        freed = λ z. dropped-zero (3 * (n - 2)) m2 (omega (arith, count)) (subst (λ (k : ℕ). Zero k l1) i (drop-same-zero (3 * n) l l1 (m1 .rest) z));
-        unlabelled = λ z. dropped-zero (n - 2) n1 (omega (arith, count)) (subst (λ (k : ℕ). Zero k ls) j z);
+        freed = λ z. taken-out-zero (3 * (n - 2)) m2 (omega (arith, count)) (subst (λ (k : ℕ). Zero k l1) i (drop-same-zero (3 * n) l l1 (m1 .rest) z));
+        unlabelled = λ z. taken-out-zero (n - 2) n1 (omega (arith, count)) (subst (λ (k : ℕ). Zero k ls) j z);
       }
 
 -- the same where the places and the triangles were computed

@@ -3,7 +3,6 @@ use Prim.Native.Nat.{ℕ, _+_, _*_, _≤_, _<_}
 use mathlib.Core.Path.{_≡_}
 use mathlib.Core.List.{List}
 use lib.ListN.{length, getD}
-use Rattle.surface.specs.Edit.{Hinge}
 use Rattle.history.specs.History.{collapsed}
 use Rattle.history.specs.Flat.{pairOf}
 
@@ -24,7 +23,7 @@ pub record Backward (q by : ℕ) (l l′ : List ℕ) : Type 0 where
   pub moved : (j : ℕ) → q ≤ j → j + by < length l → getD l′ (j + by) 0 ≡ getD l j 0
 
 -- what stood in the by places from p on and from q on is gone: what stood between has moved forward by as many, what stood behind by twice as many; 0 came in at the end
-pub record Dropped (p q by : ℕ) (l l′ : List ℕ) : Type 0 where
+pub record TakenOut (p q by : ℕ) (l l′ : List ℕ) : Type 0 where
   pub size : length l′ ≡ length l
   pub before : (j : ℕ) → j < p → getD l′ j 0 ≡ getD l j 0
   pub between : (j : ℕ) → p ≤ j → j + by < q → getD l′ j 0 ≡ getD l (j + by) 0

@@ -11,22 +11,21 @@ use verdicts::hinge_of;
 use verdicts::note_steps;
 use verdicts::record_of;
 ghost use mathlib.Core.Path.{_≡_};
-ghost use mathlib.Core.List.{List, map, _++_};
+ghost use mathlib.Core.List.{_++_};
 ghost use mathlib.Core.Bool.{cond};
-ghost use Prim.Native.Nat.{ℕ, suc, _+_, _*_, _-_, _<_, _≤_};
-ghost use lib.ListN.{length, getD, drop, take, set, replicate};
+ghost use Prim.Native.Nat.{_+_, _*_, _-_, _<_, _≤_};
+ghost use lib.ListN.{length, getD, drop, replicate};
 ghost use lib.Dec.{eqb};
 ghost use Rattle.surface.specs.Triangle.{tri};
-ghost use Rattle.surface.specs.Edit.{put, renamed, hinge};
+ghost use Rattle.surface.specs.Edit.{put, renamed};
 ghost use Rattle.surface.specs.Closed.{around};
 ghost use Rattle.surface.specs.Flat.{triOf, held, triAt, putAt};
-ghost use Rattle.history.specs.Undo.{turned, walk, restored, undone};
-ghost use Rattle.history.specs.Route.{Route};
+ghost use Rattle.history.specs.Undo.{turned, walk};
 ghost use Rattle.history.specs.Flat.{pairOf, entryOf};
 ghost use Rattle.history.specs.Entry.{Standing, Edited, Undoable, TakenBack};
 ghost use Rattle.verdicts.specs.Found.{Hung};
 ghost use Rattle.verdicts.specs.Notes.{On, Listed};
-ghost use Rattle.entries.specs.Moved.{Forward, Backward, Dropped, Reduced};
+ghost use Rattle.entries.specs.Moved.{Forward, Backward, TakenOut, Reduced};
 ghost use Rattle.entries.specs.Marks.{Marked, Routed, againBy, restoredBy, Mapped};
 ghost use Rattle.entries.specs.Undoes.{firstOf, secondOf, Unflips, Uncollapses, Restored};
 
@@ -107,7 +106,7 @@ fn shift_labels_back(part: &mut [u8])
 // The triangles at p and q go. Those between them move forward by one place; then those behind both move by two, to the place that this freed.
 fn remove_triangles(corners: &mut [u32], p: usize, q: usize)
     requires { ⌜ (p < q) × (3 * q + 2 < length (now corners)) ⌝ }
-    ensures { λ _. ⌜ Dropped (3 * p) (3 * q) 3 (now (corners .entry)) (now (corners .exit)) ⌝ }
+    ensures { λ _. ⌜ TakenOut (3 * p) (3 * q) 3 (now (corners .entry)) (now (corners .exit)) ⌝ }
 {
     let i = 3 * p;
     let j = 3 * q;
@@ -119,7 +118,7 @@ fn remove_triangles(corners: &mut [u32], p: usize, q: usize)
 // The labels at p and q go likewise.
 fn remove_labels(labels: &mut [u8], p: usize, q: usize)
     requires { ⌜ (p < q) × (q < length (now labels)) ⌝ }
-    ensures { λ _. ⌜ Dropped p q 1 (now (labels .entry)) (now (labels .exit)) ⌝ }
+    ensures { λ _. ⌜ TakenOut p q 1 (now (labels .entry)) (now (labels .exit)) ⌝ }
 {
     let k = q - 1;
     shift_labels_forward(&mut labels[p..q], 1);

@@ -22,7 +22,7 @@ use Rattle.history.proofs.Labels.{all-at}
 use Rattle.history.proofs.Local.{same-bool}
 use Rattle.verdicts.specs.Found.{Labelled, Flags}
 use Rattle.verdicts.specs.Survey.{allLabels, flagged, Surveyed, flagCovered, flagsCover}
-use Rattle.verdicts.specs.declared.Carried.{Carried}
+use Rattle.verdicts.specs.declared.CornerLabels.{CornerLabels}
 
 -- how far the flags of v have come: what the first i triangles carry is flagged
 pub record Flagging (ts : List Tri) (ls : List ℕ) (v i : ℕ) (flags : List Bool) : Type 0 where
@@ -118,7 +118,7 @@ all-of f [] g = refl
 all-of f (l ∷ ls) g = join (f l) (every f ls) (g 0 (omega arith)) (all-of f ls (λ i m. g (suc i) (omega arith)))
 
 -- the test of the flags says what the test of the list's labels says
-pub cover-law : {l ls : List ℕ} {n a b : ℕ} {f : Carried} {w : List ℕ} → Labelled l ls n → Surveyed (held l n) (take n ls) a b f w
+pub cover-law : {l ls : List ℕ} {n a b : ℕ} {f : CornerLabels} {w : List ℕ} → Labelled l ls n → Surveyed (held l n) (take n ls) a b f w
     → flagsCover (f .kept) (f .removed) ≡ covered (pairOf l ls n) a b
 cover-law {l} {ls} {n} {a} {b} {f} s g = same-bool (every flag allLabels) (every here ms) to from
   where

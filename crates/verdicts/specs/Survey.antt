@@ -7,7 +7,7 @@ use Rattle.surface.specs.Triangle.{Tri, names}
 use Rattle.surface.specs.Check.{every}
 use Rattle.verdicts.specs.Found.{Flags}
 use Rattle.verdicts.specs.Notes.{Noted}
-use Rattle.verdicts.specs.declared.Carried.{Carried}
+use Rattle.verdicts.specs.declared.CornerLabels.{CornerLabels}
 
 -- the labels that there are
 abbrev pub allLabels : List ℕ
@@ -18,7 +18,7 @@ abbrev pub flagged : ℕ → Tri → ℕ → List Bool → List Bool
 flagged v t label flags = cond (names t v) (set flags label true) flags
 
 -- the labels of both corners, and the steps around b
-pub record Surveyed (ts : List Tri) (ls : List ℕ) (a b : ℕ) (f : Carried) (w : List ℕ) : Type 0 where
+pub record Surveyed (ts : List Tri) (ls : List ℕ) (a b : ℕ) (f : CornerLabels) (w : List ℕ) : Type 0 where
   pub kept : Flags ts ls a (f .kept)
   pub removed : Flags ts ls b (f .removed)
   pub notes : Noted ts b w

@@ -3,15 +3,15 @@ use closing::clear;
 use halfedges::wide;
 use surface::triangle_at;
 ghost use mathlib.Core.Path.{_≡_};
-ghost use mathlib.Core.List.{List, _∷_, []};
-ghost use mathlib.Core.Bool.{Bool, true, false, _&&_, _||_, not, cond};
-ghost use Prim.Native.Nat.{ℕ, suc, _+_, _*_, _<_, _≤_};
+ghost use mathlib.Core.List.{_∷_, []};
+ghost use mathlib.Core.Bool.{true, false, _&&_, _||_, not, cond};
+ghost use Prim.Native.Nat.{ℕ, _+_, _*_, _<_, _≤_};
 ghost use lib.ListN.{length, getD, drop, take};
 ghost use lib.Dec.{eqb};
 ghost use Rattle.surface.specs.Triangle.{runs, names};
 ghost use Rattle.surface.specs.Edit.{has, first, opposite, startOf, hinge};
 ghost use Rattle.surface.specs.Closed.{sides, one, around, Step};
-ghost use Rattle.surface.specs.Flat.{triOf, held, triAt};
+ghost use Rattle.surface.specs.Flat.{triOf, held};
 ghost use Rattle.surface.specs.Check.{every};
 ghost use Rattle.history.specs.History.{words};
 ghost use Rattle.history.specs.Local.{collapse?, flip?, flipWord, collapseWord};
@@ -250,13 +250,20 @@ fn flag_and_note(flags: &mut [bool; 8], notes: &mut [u32], t: [u32; 3], label: u
 }
 
 // The labels that the corner that a collapse keeps and the one that it removes carry, a flag for each label.
-struct Carried {
+struct CornerLabels {
     kept: [bool; 8],
     removed: [bool; 8],
 }
 
 // The labels of a and b, and every step around b noted, in one pass. The words of `notes`, one for each point, are 0 before.
-fn survey(corners: &[u32], labels: &[u8], n: usize, a: u32, b: u32, notes: &mut [u32]) -> Carried
+fn survey(
+    corners: &[u32],
+    labels: &[u8],
+    n: usize,
+    a: u32,
+    b: u32,
+    notes: &mut [u32],
+) -> CornerLabels
     requires { ⌜ Labelled (now corners) (now labels) n ⌝ }
     requires { ⌜ Listed (now corners) n (length (now notes)) ⌝ }
     requires { ⌜ ((x : ℕ) → getD (now notes) x 0 ≡ 0) ⌝ }
@@ -271,7 +278,7 @@ fn survey(corners: &[u32], labels: &[u8], n: usize, a: u32, b: u32, notes: &mut 
         flag_and_note(&mut removed, notes, t, labels[i], b);
         i += 1;
     }
-    Carried { kept, removed }
+    CornerLabels { kept, removed }
 }
 
 // Where the first flag is set, the second is.
@@ -282,7 +289,7 @@ fn flag_covered(removed: bool, kept: bool) -> bool
 }
 
 // Every label of the removed corner is one of the kept corner.
-fn covers(c: Carried) -> bool
+fn covers(c: CornerLabels) -> bool
     ensures { λ r. ⌜ r ≡ flagsCover (c .kept) (c .removed) ⌝ }
 {
     let mut k: usize = 0;

@@ -1,3 +1,4 @@
+-- `entries::clear_labels` meets its contract: the first i labels are 0.
 use borrow.Author.Fill.{fill-more}
 use lib.ListN.{length, drop, replicate, set, length-set}
 use mathlib.Core.List.{List, _++_}

@@ -1,3 +1,4 @@
+-- `entries::collapse_in` meets its contract: the corner renamed, then both triangles and their labels taken out.
 use Rattle.entries.proofs.Edits.{collapse-made}
 use borrow.Author.Needs.{needs}
 use Rattle.entries.proofs.collapse_in.Statement.{statement}

@@ -1,4 +1,5 @@
-use Rattle.entries.proofs.Dropped.{dropped}
+-- `entries::remove_labels` meets its contract, as `remove_triangles` does.
+use Rattle.entries.proofs.TakenOut.{taken-out}
 use native.Mathlib.Omega.{arith}
 use borrow.Author.Needs.{needs}
 use Rattle.entries.proofs.remove_labels.Statement.{statement}
@@ -38,7 +39,7 @@ returns : tie.Need-returns
 returns c =
     let d = c .before .before .before .before .before .before in
     let s = d .before .before .before in
-    dropped (s .args .p) (s .args .q) 1 (s .args .labels .now) (d .shift-labels-forward .last .0) (omega arith) (omega arith) (d .shift-labels-forward .ensures) (c .before .before .shift-labels-forward2 .last .0) (c .before .before .shift-labels-forward2 .ensures)
+    taken-out (s .args .p) (s .args .q) 1 (s .args .labels .now) (d .shift-labels-forward .last .0) (omega arith) (omega arith) (d .shift-labels-forward .ensures) (c .before .before .shift-labels-forward2 .last .0) (c .before .before .shift-labels-forward2 .ensures)
 
 pub remove-labels-spec : {M : Type 1} → statement M
 remove-labels-spec =

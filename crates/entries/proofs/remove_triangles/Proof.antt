@@ -1,4 +1,5 @@
-use Rattle.entries.proofs.Dropped.{dropped}
+-- `entries::remove_triangles` meets its contract: two shifts of lent parts are the two pieces taken out.
+use Rattle.entries.proofs.TakenOut.{taken-out}
 use native.Mathlib.Omega.{arith}
 use Prim.Native.Nat.{_*_}
 use borrow.Author.Needs.{needs}
@@ -51,7 +52,7 @@ returns : tie.Need-returns
 returns c =
     let d = c .before .before .before .before .before .before in
     let s = d .before .before .before in
-    dropped (3 * s .args .p) (3 * s .args .q) 3 (s .args .corners .now) (d .shift-forward .last .0) (omega arith) (omega arith) (d .shift-forward .ensures) (c .before .before .shift-forward2 .last .0) (c .before .before .shift-forward2 .ensures)
+    taken-out (3 * s .args .p) (3 * s .args .q) 3 (s .args .corners .now) (d .shift-forward .last .0) (omega arith) (omega arith) (d .shift-forward .ensures) (c .before .before .shift-forward2 .last .0) (c .before .before .shift-forward2 .ensures)
 
 pub remove-triangles-spec : {M : Type 1} → statement M
 remove-triangles-spec =

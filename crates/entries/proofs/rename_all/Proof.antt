@@ -1,3 +1,4 @@
+-- `entries::rename_all` meets its contract: the words below i have their new names.
 use borrow.Author.Needs.{needs}
 use Rattle.entries.proofs.Words.{Wording, wording-end}
 use Rattle.entries.proofs.Turns.{turning-start, turning-on}

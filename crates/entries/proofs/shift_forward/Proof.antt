@@ -1,3 +1,4 @@
+-- `entries::shift_forward` meets its contract: the words below i have moved, and the freed end is cleared.
 use borrow.Author.Needs.{needs}
 use Rattle.entries.proofs.Moved.{Shifting, shifting-end}
 use Rattle.entries.proofs.Turns.{turning-start, turning-on}

@@ -1,3 +1,4 @@
+-- `entries::shift_labels_forward` meets its contract, as `shift_forward` does.
 use borrow.Author.Needs.{needs}
 use Rattle.entries.proofs.Moved.{Shifting, shifting-end}
 use Rattle.entries.proofs.Turns.{turning-start, turning-on}

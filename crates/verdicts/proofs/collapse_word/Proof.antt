@@ -1,3 +1,4 @@
+-- `verdicts::collapse_word` meets its contract: the flags and notes of the survey, then the tests in turn.
 use Rattle.verdicts.proofs.Word.{uncovered-word, collapse-word-is}
 use Rattle.verdicts.proofs.Cover.{cover-law}
 use Rattle.verdicts.proofs.Notes.{cleared, listed-as}
@@ -7,12 +8,6 @@ use mathlib.Core.Path.{_∙_}
 use borrow.Author.Needs.{needs}
 use Rattle.verdicts.proofs.collapse_word.Statement.{statement}
 use Rattle.verdicts.proofs.collapse_word.Tie as tie
-use Rattle.verdicts.proofs.collapse_word.Reads as reads
-use Rattle.verdicts.proofs.collapse_word.Lts as lts
-use Rattle.closing.proofs.clear.Reads as clear-reads
-use Rattle.verdicts.proofs.covers.Reads as covers-reads
-use Rattle.verdicts.proofs.may_collapse.Reads as may-collapse-reads
-use Rattle.verdicts.proofs.survey.Reads as survey-reads
 
 clear-requires : tie.Need-clear-requires
 clear-requires c κs = search needs

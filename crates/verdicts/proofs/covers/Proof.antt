@@ -1,3 +1,4 @@
+-- `verdicts::covers` meets its contract: at the loop's head the labels from k on decide.
 use Rattle.verdicts.proofs.Cover.{label-stop, label-on, label-end}
 use Rattle.verdicts.specs.Survey.{allLabels, flagCovered, flagsCover}
 use Rattle.surface.specs.Check.{every}
@@ -8,9 +9,6 @@ use mathlib.Core.Path.{_≡_, refl}
 use Prim.Native.Nat.{_-_, _≤_}
 use Rattle.verdicts.proofs.covers.Statement.{statement}
 use Rattle.verdicts.proofs.covers.Tie as tie
-use Rattle.verdicts.proofs.covers.Reads as reads
-use Rattle.verdicts.proofs.covers.Lts as lts
-use Rattle.verdicts.proofs.flag_covered.Reads as flag-covered-reads
 
 abbrev Inv-loop : tie.InvT-loop
 Inv-loop c k₀ k = (k ≤ 8) × (every (flagCovered (c .kept) (c .removed)) (drop k allLabels) ≡ flagsCover (c .kept) (c .removed))

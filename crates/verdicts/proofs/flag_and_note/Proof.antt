@@ -1,13 +1,10 @@
+-- `verdicts::flag_and_note` meets its contract: a triangle that does not name v changes neither list.
 use Rattle.verdicts.proofs.Notes.{noted-off}
 use mathlib.Core.Path.{sym, _∙_}
 use borrow.Author.Tests.{not-true, not-false}
 use borrow.Author.Needs.{needs}
 use Rattle.verdicts.proofs.flag_and_note.Statement.{statement}
 use Rattle.verdicts.proofs.flag_and_note.Tie as tie
-use Rattle.verdicts.proofs.flag_and_note.Reads as reads
-use Rattle.verdicts.proofs.flag_and_note.Lts as lts
-use Rattle.verdicts.proofs.names_in.Reads as names-in-reads
-use Rattle.verdicts.proofs.note_step.Reads as note-step-reads
 
 names-in-requires : tie.Need-names-in-requires
 names-in-requires c κs = search needs

@@ -1,3 +1,4 @@
+-- `verdicts::has_side` meets its contract: no side of a where a is not named.
 use Rattle.verdicts.proofs.Find.{no-corner}
 use Rattle.surface.specs.Flat.{triOf}
 use mathlib.Core.Path.{sym, _∙_}
@@ -5,10 +6,6 @@ use borrow.Author.Tests.{not-true}
 use borrow.Author.Needs.{needs}
 use Rattle.verdicts.proofs.has_side.Statement.{statement}
 use Rattle.verdicts.proofs.has_side.Tie as tie
-use Rattle.verdicts.proofs.has_side.Reads as reads
-use Rattle.verdicts.proofs.has_side.Lts as lts
-use Rattle.verdicts.proofs.names_in.Reads as names-in-reads
-use Rattle.verdicts.proofs.runs_to.Reads as runs-to-reads
 
 names-in-requires : tie.Need-names-in-requires
 names-in-requires c κs = search needs

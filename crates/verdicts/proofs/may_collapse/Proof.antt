@@ -1,3 +1,4 @@
+-- `verdicts::may_collapse` meets its contract: no common neighbour by the notes, and then not two corners of three triangles.
 use Rattle.verdicts.proofs.Scan.{collapse-common, collapse-many, collapse-three}
 use Rattle.verdicts.proofs.Notes.{noted-common}
 use Rattle.surface.specs.Flat.{held}
@@ -6,10 +7,6 @@ use borrow.Author.Tests.{not-true, not-false}
 use borrow.Author.Needs.{needs}
 use Rattle.verdicts.proofs.may_collapse.Statement.{statement}
 use Rattle.verdicts.proofs.may_collapse.Tie as tie
-use Rattle.verdicts.proofs.may_collapse.Reads as reads
-use Rattle.verdicts.proofs.may_collapse.Lts as lts
-use Rattle.verdicts.proofs.all_apart.Reads as all-apart-reads
-use Rattle.verdicts.proofs.three_around.Reads as three-around-reads
 
 all-apart-requires : tie.Need-all-apart-requires
 all-apart-requires c κs = search needs

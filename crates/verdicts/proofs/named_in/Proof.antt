@@ -1,3 +1,4 @@
+-- `verdicts::named_in` meets its contract: none where v is not named, and else the sum of three tests.
 use Rattle.verdicts.proofs.Scan.{named-law, unnamed}
 use Rattle.surface.specs.Flat.{triOf}
 use mathlib.Core.Path.{sym, _∙_}
@@ -6,10 +7,6 @@ use borrow.Author.Tests.{not-true}
 use borrow.Author.Needs.{needs}
 use Rattle.verdicts.proofs.named_in.Statement.{statement}
 use Rattle.verdicts.proofs.named_in.Tie as tie
-use Rattle.verdicts.proofs.named_in.Reads as reads
-use Rattle.verdicts.proofs.named_in.Lts as lts
-use Rattle.verdicts.proofs.names_in.Reads as names-in-reads
-use Rattle.verdicts.proofs.one_if.Reads as one-if-reads
 
 names-in-requires : tie.Need-names-in-requires
 names-in-requires c κs = search needs

@@ -1,3 +1,4 @@
+-- `verdicts::survey` meets its contract: each turn is one of `Surveying`.
 use Rattle.verdicts.proofs.Surveying.{Surveying, surveying-on, surveying-end}
 use Rattle.verdicts.proofs.Cover.{flagging-start}
 use Rattle.verdicts.proofs.Notes.{noting-start, noting-fits}
@@ -7,11 +8,6 @@ use borrow.Author.Needs.{needs}
 use Prim.Native.Nat.{_-_}
 use Rattle.verdicts.proofs.survey.Statement.{statement}
 use Rattle.verdicts.proofs.survey.Tie as tie
-use Rattle.verdicts.proofs.survey.Reads as reads
-use Rattle.verdicts.proofs.survey.Lts as lts
-use Rattle.surface.proofs.triangle_at.Reads as triangle-at-reads
-use Rattle.verdicts.proofs.flag_and_note.Reads as flag-and-note-reads
-use Rattle.verdicts.proofs.flag_label.Reads as flag-label-reads
 
 abbrev Inv-loop : tie.InvT-loop
 Inv-loop corners labels n a b notes₀ kept₀ removed₀ i₀ notes kept removed i = Surveying corners labels n a b (length notes₀) i kept removed notes

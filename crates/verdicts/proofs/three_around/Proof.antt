@@ -1,3 +1,4 @@
+-- `verdicts::three_around` meets its contract: the triangles around v that were passed, at most three, and those to come.
 use Rattle.verdicts.proofs.Scan.{count-on, count-stop, count-end}
 use Rattle.surface.specs.Flat.{held}
 use Rattle.surface.specs.Closed.{around}
@@ -8,10 +9,6 @@ use native.Mathlib.Omega.{arith}
 use Prim.Native.Nat.{_+_, _-_, _≤_}
 use Rattle.verdicts.proofs.three_around.Statement.{statement}
 use Rattle.verdicts.proofs.three_around.Tie as tie
-use Rattle.verdicts.proofs.three_around.Reads as reads
-use Rattle.verdicts.proofs.three_around.Lts as lts
-use Rattle.surface.proofs.triangle_at.Reads as triangle-at-reads
-use Rattle.verdicts.proofs.named_in.Reads as named-in-reads
 
 abbrev Inv-loop : tie.InvT-loop
 Inv-loop corners n v s₀ i₀ s i = (i ≤ n) × (s ≤ 3) × (s + length (around (drop i (held corners n)) v) ≡ length (around (held corners n) v))

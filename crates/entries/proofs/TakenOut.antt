@@ -12,7 +12,7 @@ use Rattle.surface.specs.Flat.{held}
 use Rattle.surface.proofs.Held.{length-held, place-held}
 use Rattle.surface.proofs.Labels.{skip, out-at}
 use Rattle.surface.proofs.Places.{length-without}
-use Rattle.entries.specs.Moved.{Zero, Forward, Dropped}
+use Rattle.entries.specs.Moved.{Zero, Forward, TakenOut}
 use Rattle.entries.proofs.Mapped.{tri-path}
 use Rattle.entries.proofs.Moved.{at-front, at-part, whole-size, forward-lent}
 
@@ -46,9 +46,9 @@ module _ (p q by : ℕ) (l part′ : List ℕ) (o : p + by ≤ q) (f : q ≤ len
       ∙ getD-drop (q - p) (drop p l) (j - q) 0 ∙ getD-drop p l (q - p + (j - q)) 0 ∙ ap (λ (k : ℕ). getD l k 0) e
 
   -- and then the part from the freed places on moved forward over these and the by places at q
-  pub dropped : (part″ : List ℕ) → Forward 0 (by + by) (take (length first - (q - by)) (drop (q - by) first)) part″
-      → Dropped p q by l (take (q - by) first ++ (part″ ++ drop (length first - (q - by)) (drop (q - by) first)))
-  dropped part″ u =
+  pub taken-out : (part″ : List ℕ) → Forward 0 (by + by) (take (length first - (q - by)) (drop (q - by) first)) part″
+      → TakenOut p q by l (take (q - by) first ++ (part″ ++ drop (length first - (q - by)) (drop (q - by) first)))
+  taken-out part″ u =
       let t = forward-lent (q - by) first part″ (omega (arith, first-size)) u in
       record {
         size = t .size ∙ first-size;
@@ -57,8 +57,8 @@ module _ (p q by : ℕ) (l part′ : List ℕ) (o : p + by ≤ q) (f : q ≤ len
         behind = λ j a. let e : j + (by + by) ≡ j + by + by = omega arith in t .moved j (omega arith) ∙ first-rest (j + (by + by)) (omega arith) ∙ ap (λ (k : ℕ). getD l k 0) e;
       }
 
-pub dropped-zero : {p q by : ℕ} {l l′ : List ℕ} (k : ℕ) → Dropped p q by l l′ → q ≤ k + by → Zero (k + by + by) l → Zero k l′
-dropped-zero k s a z j m = s .behind j (omega arith) ∙ z _ (omega arith)
+pub taken-out-zero : {p q by : ℕ} {l l′ : List ℕ} (k : ℕ) → TakenOut p q by l l′ → q ≤ k + by → Zero (k + by + by) l → Zero k l′
+taken-out-zero k s a z j m = s .behind j (omega arith) ∙ z _ (omega arith)
 
 -- a list without two of its entries, by the entries
 skip-far : (p i : ℕ) → p ≤ i → skip p i ≡ suc i
@@ -93,7 +93,7 @@ module _ {A : Type 0} (d : A) where
       pick i m (no a) (no b) = k i (omega arith) m ∙ sym (out-far p i (without q xs) (omega arith) ∙ out-far q (suc i) xs (omega arith))
 
 -- the triangles in use, of which m stay
-module _ (l l′ : List ℕ) (n m p q : ℕ) (count : m + 2 ≡ n) (room : 3 * n ≤ length l) (o : p < q) (f : q < n) (s : Dropped (3 * p) (3 * q) 3 l l′) where
+module _ (l l′ : List ℕ) (n m p q : ℕ) (count : m + 2 ≡ n) (room : 3 * n ≤ length l) (o : p < q) (f : q < n) (s : TakenOut (3 * p) (3 * q) 3 l l′) where
   same-at : (i j : ℕ) → i < m → j < n → getD l′ (3 * i) 0 ≡ getD l (3 * j) 0 → getD l′ (3 * i + 1) 0 ≡ getD l (3 * j + 1) 0 → getD l′ (3 * i + 2) 0 ≡ getD l (3 * j + 2) 0
       → place (held l′ m) i ≡ place (held l n) j
   same-at i j a b x y z = place-held l′ m i (omega (arith, s .size)) a ∙ tri-path x y z ∙ sym (place-held l n j room b)
@@ -104,8 +104,8 @@ module _ (l l′ : List ℕ) (n m p q : ℕ) (count : m + 2 ≡ n) (room : 3 * n
   behind : (i j : ℕ) → 3 * q ≤ i + 3 → i + 3 + 3 ≡ j → getD l′ i 0 ≡ getD l j 0
   behind i j a e = s .behind i a ∙ ap (λ (k : ℕ). getD l k 0) e
 
-  pub dropped-held : held l′ m ≡ without p (without q (held l n))
-  dropped-held =
+  pub taken-out-held : held l′ m ≡ without p (without q (held l n))
+  taken-out-held =
       let a = length-held l′ m (omega (arith, s .size)) in
       let b = length-held l n room in
       without-two (tri 0 0 0) p q (held l n) (held l′ m) o (omega arith) (omega arith)
@@ -114,12 +114,12 @@ module _ (l l′ : List ℕ) (n m p q : ℕ) (count : m + 2 ≡ n) (room : 3 * n
       (λ i c e. same-at i (suc (suc i)) (omega arith) (omega arith) (behind (3 * i) (3 * suc (suc i)) (omega arith) (omega arith)) (behind (3 * i + 1) (3 * suc (suc i) + 1) (omega arith) (omega arith)) (behind (3 * i + 2) (3 * suc (suc i) + 2) (omega arith) (omega arith)))
 
 -- the labels in use likewise
-module _ (l l′ : List ℕ) (n m p q : ℕ) (count : m + 2 ≡ n) (room : n ≤ length l) (o : p < q) (f : q < n) (s : Dropped p q 1 l l′) where
+module _ (l l′ : List ℕ) (n m p q : ℕ) (count : m + 2 ≡ n) (room : n ≤ length l) (o : p < q) (f : q < n) (s : TakenOut p q 1 l l′) where
   taken-at : (i j k : ℕ) → i < m → j < n → k ≡ j → getD l′ i 0 ≡ getD l k 0 → getD (take m l′) i 0 ≡ getD (take n l) j 0
   taken-at i j k a b e x = getD-take m l′ i 0 a ∙ x ∙ ap (λ (h : ℕ). getD l h 0) e ∙ sym (getD-take n l j 0 b)
 
-  pub dropped-take : take m l′ ≡ without p (without q (take n l))
-  dropped-take =
+  pub taken-out-take : take m l′ ≡ without p (without q (take n l))
+  taken-out-take =
       let a = length-take-le m l′ (omega (arith, s .size)) in
       let b = length-take-le n l room in
       without-two 0 p q (take n l) (take m l′) o (omega arith) (omega arith)
