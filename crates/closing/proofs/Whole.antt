@@ -12,7 +12,7 @@ use Rattle.halfedges.specs.Place.{at, Sized}
 use Rattle.halfedges.proofs.Fine.{Fine, fine-of, rounded-of, fine-unused, unused-past}
 use Rattle.halfedges.proofs.Steps.{length-pl}
 use Rattle.halfedges.proofs.Whole.{Enough}
-use Rattle.closing.specs.Closing.{needed, Lent}
+use Rattle.closing.specs.Closing.{needed, Lent, Zeroed}
 use Rattle.closing.specs.Stages.{used, Chained, Ready, AllJudged, Settled}
 
 pub zero-at : (n i : ℕ) (w t : List ℕ) → w ≡ replicate n 0 ++ t → i < n → at w i ≡ 0
@@ -30,6 +30,14 @@ far-on u m a b h e =
 -- past the cleared words
 pub far-clear : (n : ℕ) (w d : List ℕ) → w ≡ replicate n 0 ++ drop n d → drop n w ≡ drop n d
 far-clear n w d e = ap (drop n) e ∙ drop-at (replicate n 0) (drop n d) n (length-replicate n 0)
+
+-- the lent words are used, then cleared; and cleared twice
+module _ (c : List ℕ) (p : ℕ) (w₀ w₁ w₂ : List ℕ) where
+  pub zeroed-used : (n : ℕ) → n ≡ needed c p → drop (needed c p) w₁ ≡ drop (needed c p) w₀ → w₂ ≡ replicate n 0 ++ drop n w₁ → Zeroed c p w₀ w₂
+  zeroed-used n en far e = e ∙ ap (λ (k : ℕ). replicate k 0 ++ drop k w₁) en ∙ ap (λ (t : List ℕ). replicate (needed c p) 0 ++ t) far
+
+  pub zeroed-again : Zeroed c p w₀ w₁ → Zeroed c p w₁ w₂ → Zeroed c p w₀ w₂
+  zeroed-again e f = zeroed-used (needed c p) refl (far-clear (needed c p) w₁ w₀ e) f
 
 module _ (c : List ℕ) (p : ℕ) (w₀ : List ℕ) (given : Lent c p w₀) where
   pub sized-first : (w : List ℕ) → length w ≡ length w₀ → Sized c p w

@@ -7,6 +7,8 @@ use mathlib.Core.List.{List, _++_}
 use lib.ListN.{length, getD, drop, replicate}
 use Rattle.surface.specs.Triangle.{triangles}
 use Rattle.surface.specs.Closed.{Manifold, Closed}
+use Rattle.surface.specs.Finding.{finding}
+use Rattle.surface.specs.declared.Finding.{Finding}
 
 -- the work words needed: 32 for each triangle and 16 for each point
 abbrev pub needed : List ℕ → ℕ → ℕ
@@ -27,6 +29,11 @@ Zeroed c p w w′ = w′ ≡ replicate (needed c p) 0 ++ drop (needed c p) w
 -- rules (b) and (c)
 pub record Decided (c : List ℕ) (p : ℕ) (w w′ : List ℕ) (r : Bool) : Type 0 where
   pub decides : (r ≡ true) ↔ Manifold (triangles c)
+  pub zeroed : Zeroed c p w w′
+
+-- rules (b) and (c), and where they fail
+pub record Found (c : List ℕ) (p : ℕ) (w w′ : List ℕ) (r : Finding) : Type 0 where
+  pub answer : r ≡ finding (triangles c)
   pub zeroed : Zeroed c p w w′
 
 -- all four rules

@@ -1,18 +1,21 @@
 // The judgement of closedness over lent work words, in time linear in the triangles and the points.
 // The places of each corner are chained; at each corner v the step of each of its triangles, from x to y, is noted under x with a stamp of v. The x's differ where no directed side occurs twice,
 // and following the notes leads through all of them and back where every reverse is there and the triangles are one ring.
+// Where the answer is no, a second pass finds the place, corner by corner in rising order: the side from u to v is repeated where two places of u run to v, and lone where one runs to v and none comes from v.
 // The work words: from 0 on a head for each point, from points on a stamp and a note for each point, from 3 * points on a link for each place of the corner list.
 use halfedges::after;
 use halfedges::before;
 use halfedges::wide;
+use surface::Finding;
 ghost use mathlib.Core.Path.{_≡_};
 ghost use mathlib.Core.Bool.{true, false};
 ghost use mathlib.Core.List.{_++_};
-ghost use Prim.Native.Nat.{ℕ, _+_, _%_, _<_, _≤_};
+ghost use Prim.Native.Nat.{ℕ, suc, _+_, _%_, _<_, _≤_};
 ghost use lib.ListN.{length, drop, replicate};
 ghost use Rattle.halfedges.specs.Place.{at, hopTo, trip, Sized, Inside};
-ghost use Rattle.closing.specs.Closing.{Lent, Decided, ClosedDecided};
+ghost use Rattle.closing.specs.Closing.{Lent, Decided, Found, ClosedDecided};
 ghost use Rattle.closing.specs.Stages.{Chained, Ready, Entered, Judged, AllJudged, Settled, Told};
+ghost use Rattle.closing.specs.Locating.{lower, Least, Unmet, Prepared, OriginsStamped, EndSought, SideSought, SplitSought, Located};
 
 // The first count words become 0.
 pub fn clear(work: &mut [u32], count: usize)
@@ -154,6 +157,174 @@ pub fn closed_oriented_manifold(corners: &[u32], points: usize, work: &mut [u32]
     ensures { λ r. ⌜ Decided (now (corners .entry)) points (now (work .entry)) (now (work .exit)) r ⌝ }
 {
     settle(corners, points, 1, work)
+}
+
+// The chains are made and the stamps are 0.
+fn prepare(corners: &[u32], points: usize, work: &mut [u32])
+    requires { ⌜ Lent (now corners) points (now work) ⌝ }
+    ensures { λ _. ⌜ Prepared (now (corners .entry)) points (now (work .entry)) (now (work .exit)) ⌝ }
+{
+    clear(work, points + points + points);
+    link_corners(corners, points, work);
+}
+
+// The smaller one of x and the best so far, where x is found.
+fn lowered(found: bool, x: usize, best: usize) -> usize
+    ensures { λ r. ⌜ r ≡ lower found x best ⌝ }
+{
+    if !found {
+        return best;
+    }
+    if x < best {
+        return x;
+    }
+    best
+}
+
+// The smallest corner to which two places of u run; points where there is none.
+fn smallest_repeated(corners: &[u32], points: usize, u: usize, work: &mut [u32]) -> usize
+    requires { ⌜ Ready (now corners) points (now work) u ⌝ }
+    requires { ⌜ u < points ⌝ }
+    ensures { λ r. ⌜ EndSought (now (corners .entry)) points false u (now (work .entry)) (now (work .exit)) r ⌝ }
+{
+    let mut best = points;
+    let mut p = wide(work[u]);
+    while p > 0 {
+        let k = p - 1;
+        let x = wide(corners[after(k)]);
+        let slot = points + x + x;
+        best = lowered(wide(work[slot]) == u + 1, x, best);
+        work[slot] = (u + 1) as u32;
+        p = wide(work[points + points + points + k]);
+    }
+    best
+}
+
+// Stamps the corners from which a side runs to u.
+fn stamp_origins(corners: &[u32], points: usize, u: usize, work: &mut [u32])
+    requires { ⌜ Ready (now corners) points (now work) u ⌝ }
+    requires { ⌜ u < points ⌝ }
+    ensures { λ _. ⌜ OriginsStamped (now (corners .entry)) points u (now (work .entry)) (now (work .exit)) ⌝ }
+{
+    let mut p = wide(work[u]);
+    while p > 0 {
+        let k = p - 1;
+        let x = wide(corners[before(k)]);
+        work[points + x + x] = (u + 1) as u32;
+        p = wide(work[points + points + points + k]);
+    }
+}
+
+// The smallest corner to which a place of u runs and that has no stamp of u; points where there is none.
+fn smallest_unstamped(corners: &[u32], points: usize, u: usize, work: &[u32]) -> usize
+    requires { ⌜ Ready (now corners) points (now work) (suc u) ⌝ }
+    requires { ⌜ u < points ⌝ }
+    ensures { λ r. ⌜ Least (Unmet (now (corners .entry)) points (now (work .entry)) u 0) points r ⌝ }
+{
+    let mut best = points;
+    let mut p = wide(work[u]);
+    while p > 0 {
+        let k = p - 1;
+        let x = wide(corners[after(k)]);
+        best = lowered(wide(work[points + x + x]) != u + 1, x, best);
+        p = wide(work[points + points + points + k]);
+    }
+    best
+}
+
+// The smallest end of a lone or of a repeated side that starts at u; points where there is none.
+fn smallest_end(corners: &[u32], points: usize, lone: bool, u: usize, work: &mut [u32]) -> usize
+    requires { ⌜ Ready (now corners) points (now work) u ⌝ }
+    requires { ⌜ u < points ⌝ }
+    ensures { λ r. ⌜ EndSought (now (corners .entry)) points lone u (now (work .entry)) (now (work .exit)) r ⌝ }
+{
+    if lone {
+        stamp_origins(corners, points, u, work);
+        return smallest_unstamped(corners, points, u, work);
+    }
+    smallest_repeated(corners, points, u, work)
+}
+
+// A directed side, or none.
+enum Side {
+    Found(u32, u32),
+    Nowhere,
+}
+
+// The smallest lone or the smallest repeated side.
+fn first_side(corners: &[u32], points: usize, lone: bool, work: &mut [u32]) -> Side
+    requires { ⌜ Lent (now corners) points (now work) ⌝ }
+    ensures { λ r. ⌜ SideSought (now (corners .entry)) points lone (now (work .entry)) (now (work .exit)) r ⌝ }
+{
+    prepare(corners, points, work);
+    let mut u: usize = 0;
+    while u < points {
+        let v = smallest_end(corners, points, lone, u, work);
+        if v < points {
+            let from = u as u32;
+            let to = v as u32;
+            return Side::Found(from, to);
+        }
+        u += 1;
+    }
+    Side::Nowhere
+}
+
+// The smallest corner whose steps are not one ring; points where there is none.
+fn first_split(corners: &[u32], points: usize, work: &mut [u32]) -> usize
+    requires { ⌜ Lent (now corners) points (now work) ⌝ }
+    ensures { λ r. ⌜ SplitSought (now (corners .entry)) points (now (work .entry)) (now (work .exit)) r ⌝ }
+{
+    prepare(corners, points, work);
+    let mut v: usize = 0;
+    while v < points {
+        if corner_ringed(corners, points, 1, v, work) {
+            v += 1;
+        } else {
+            return v;
+        }
+    }
+    points
+}
+
+// The finding, of any surface: a repeated side first, then a lone side, then a split corner.
+fn search(corners: &[u32], points: usize, work: &mut [u32]) -> Finding
+    requires { ⌜ Lent (now corners) points (now work) ⌝ }
+    ensures { λ r. ⌜ Located (now (corners .entry)) points (now (work .entry)) (now (work .exit)) r ⌝ }
+{
+    if let Side::Found(u, v) = first_side(corners, points, false, work) {
+        return Finding::Repeated(u, v);
+    }
+    if let Side::Found(u, v) = first_side(corners, points, true, work) {
+        return Finding::Lone(u, v);
+    }
+    let v = first_split(corners, points, work);
+    if v < points {
+        let corner = v as u32;
+        return Finding::Split(corner);
+    }
+    Finding::Closed
+}
+
+// What is found of rules (b) and (c), for a surface that is likely to be open: it is searched at once. The lent words as in `closed_oriented_manifold`.
+pub fn locate(corners: &[u32], points: usize, work: &mut [u32]) -> Finding
+    requires { ⌜ Lent (now corners) points (now work) ⌝ }
+    ensures { λ r. ⌜ Found (now (corners .entry)) points (now (work .entry)) (now (work .exit)) r ⌝ }
+{
+    let found = search(corners, points, work);
+    clear(work, corners.len() / 3 * 32 + points * 16); // and the place is known
+    found
+}
+
+// Judges rules (b) and (c), and says where they fail. A surface that passes is judged once, as by `closed_oriented_manifold`; only one that does not is searched.
+pub fn finding(corners: &[u32], points: usize, work: &mut [u32]) -> Finding
+    requires { ⌜ Lent (now corners) points (now work) ⌝ }
+    ensures { λ r. ⌜ Found (now (corners .entry)) points (now (work .entry)) (now (work .exit)) r ⌝ }
+{
+    if closed_oriented_manifold(corners, points, work) {
+        return Finding::Closed;
+    }
+    locate(corners, points, work)
 }
 
 // Whether the corners of each triangle differ: rule (a).

@@ -1,4 +1,4 @@
--- The theorems, in the terms of the definitions: `Laws` (the laws of flips and collapses), `PageTwelve` (the order of the list), `Decision` (the test decides), `Valence` (rule (d) by counting),
+-- The theorems, in the terms of the definitions: `Laws` (the laws of flips and collapses), `PageTwelve` (the order of the list), `Decision` (the test decides), `Findings` (there is one finding, and it is computed), `Valence` (rule (d) by counting),
 -- `Original` (the Rust's test answers likewise), `FlipRings`, `CollapseRings` and `Counts` (what the edits do to the rings), `Labels`, `Formula` (Euler's number); and `Examples`, small surfaces by computation.
 -- `Flat` and `Held` have the lists of corner numbers. The others lead there: `Surface` is closedness without any order, and `Bridge` goes from the one to the other.
 pub mod Bools
@@ -26,6 +26,7 @@ pub mod Held
 pub mod Decision
 pub mod Labels
 pub mod PageTwelve
+pub mod Findings
 pub mod Laws
 pub mod Pairs
 pub mod Original

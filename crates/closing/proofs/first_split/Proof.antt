@@ -1,0 +1,118 @@
+-- `closing::first_split` meets its contract: at the loop's head the corners below v are fine.
+use Prim.Native.Nat.{ℕ, _-_, _≤_, _<_}
+use mathlib.Core.Path.{_≡_, refl, _∙_}
+use mathlib.Core.List.{List}
+use native.Mathlib.Omega.{arith}
+use native.Mathlib.Numerals.{add-one}
+use lib.ListN.{length, drop}
+use denote.Ref.{now}
+use borrow.Author.Count.{below-more}
+use Rattle.halfedges.proofs.Fine.{Fine}
+use Rattle.closing.specs.Stages.{used, Ready}
+use Rattle.closing.proofs.first_split.Statement.{statement}
+use Rattle.closing.proofs.first_split.Tie as tie
+
+record Going (c : List ℕ) (p : ℕ) (w₀ w : List ℕ) (v : ℕ) : Type 0 where
+  low : v ≤ p
+  size : length w ≡ length w₀
+  ready : Ready c p w v
+  far : drop (used c p) w ≡ drop (used c p) w₀
+  fine : (u : ℕ) → u < v → Fine c u
+
+abbrev Inv-loop : tie.InvT-loop
+Inv-loop corners points work₀ v₀ work v = Going corners points work₀ work v
+
+abbrev μ-loop : tie.MeasureT-loop
+μ-loop corners points work₀ v₀ work v = points - v
+
+prepare-requires : tie.Need-prepare-requires Inv-loop μ-loop
+prepare-requires c κs = c .before .before .before .pre
+
+loop-holds : tie.Need-loop-holds Inv-loop μ-loop
+loop-holds c = record { low = omega arith; size = refl; ready = c .before .before .prepare .ensures .ready; far = refl; fine = λ u l. absurd (omega arith) }
+
+abbrev prepared : tie.At-loop Inv-loop μ-loop → tie.After-prepare Inv-loop μ-loop
+prepared l = l .before .before .before
+
+abbrev start : tie.At-loop Inv-loop μ-loop → tie.Start Inv-loop μ-loop
+start l = prepared l .before .before .before .before
+
+abbrev asked : tie.After-slice-known3 Inv-loop μ-loop → tie.After-corner-ringed Inv-loop μ-loop
+asked c = c .before .before
+
+abbrev in-loop : tie.After-slice-known3 Inv-loop μ-loop → tie.In-loop Inv-loop μ-loop
+in-loop c = asked c .before .before
+
+corner-ringed-requires : tie.Need-corner-ringed-requires Inv-loop μ-loop
+corner-ringed-requires c κs = (c .before .before .loop .inv .ready, (c .before .loop-test .taken, omega arith))
+
+add-v : tie.Need-add-v Inv-loop μ-loop
+add-v c = let l = in-loop (c .before) .before in omega (arith, start l .pre .points)
+
+loop-less : tie.Need-loop-less Inv-loop μ-loop
+loop-less c = omega arith
+
+loop-again : tie.Need-loop-again Inv-loop μ-loop
+loop-again c =
+    let d = asked (c .before) in
+    let i = in-loop (c .before) in
+    let l = i .before in
+    let e = d .corner-ringed .ensures in
+    record {
+      low = omega (arith, i .loop-test .taken);
+      size = d .corner-ringed .kept .1 .1 .1 .1 .0 ∙ l .loop .inv .size;
+      ready = rw add-one (e .ready);
+      far = e .far ∙ l .loop .inv .far;
+      fine = below-more (Fine (now (start l .args .corners))) (l .loop .v) (l .loop .inv .fine) (e .yea (c .if1 .taken));
+    }
+
+same-length : tie.Need-same-length Inv-loop μ-loop
+same-length c =
+    let l = in-loop (c .before) .before in
+    asked (c .before) .corner-ringed .kept .1 .1 .1 .1 .0 ∙ l .loop .inv .size ∙ prepared l .prepare .kept .1 .1 .0
+
+returns : tie.Need-returns Inv-loop μ-loop
+returns c =
+    let d = asked (c .before) in
+    let l = in-loop (c .before) .before in
+    let e = d .corner-ringed .ensures in
+    record {
+      far = e .far ∙ l .loop .inv .far ∙ prepared l .prepare .ensures .far;
+      least = record {
+        within = l .loop .inv .low;
+        holds = λ _ fine. e .nay (c .if1 .left) fine (λ q. q);
+        before = λ y h n. n (l .loop .inv .fine y h);
+      };
+    }
+
+same-length-2 : tie.Need-same-length-2 Inv-loop μ-loop
+same-length-2 c = let l = c .before in l .loop .inv .size ∙ prepared l .prepare .kept .1 .1 .0
+
+returns-2 : tie.Need-returns-2 Inv-loop μ-loop
+returns-2 c =
+    let l = c .before in
+    record {
+      far = l .loop .inv .far ∙ prepared l .prepare .ensures .far;
+      least = record {
+        within = omega arith;
+        holds = λ h. absurd (omega arith);
+        before = λ y h n. n (l .loop .inv .fine y (omega arith));
+      };
+    }
+
+pub first-split-spec : {M : Type 1} → statement M
+first-split-spec =
+    tie.close
+    (tie.spec
+    Inv-loop
+    μ-loop
+    prepare-requires
+    loop-holds
+    corner-ringed-requires
+    add-v
+    loop-less
+    loop-again
+    same-length
+    returns
+    same-length-2
+    returns-2)
