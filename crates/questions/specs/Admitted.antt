@@ -1,4 +1,4 @@
--- In readable form: what a surface has that passes all questions that improving and editing share (`surfaceNumber` is 0 exactly then: `admitted-iff` of proofs/Laws). Definitions only.
+-- In readable form: what a surface has that passes all questions that improving and editing share (`surfaceQuestions` is `Passed` exactly then: `admitted-iff` of proofs/Laws). Definitions only.
 use Prim.Native.Nat.{ℕ, _/_, _%_, _<_, _≤_}
 use mathlib.Core.Path.{_≡_}
 use mathlib.Core.Bool.{true, false}

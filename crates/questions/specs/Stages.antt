@@ -9,7 +9,9 @@ use Rattle.surface.specs.Check.{differ?}
 use Rattle.halfedges.specs.Place.{at}
 use Rattle.closing.specs.Closing.{needed as lent, Zeroed}
 use Rattle.surface.specs.Check.{every}
-use Rattle.questions.specs.Questions.{ask, known?, listed?, unopposed?, furtherNumber}
+use Rattle.questions.specs.Questions.{ask, known?, listed?, unopposed?, furtherQuestions}
+use Rattle.questions.specs.declared.Asked.{Asked}
+use Rattle.questions.specs.declared.Asked.the-variants.{Passed}
 
 -- lists that pass questions 1 to 3
 pub record Sized (corners labels : List ℕ) (p : ℕ) (work : List ℕ) : Type 0 where
@@ -38,11 +40,11 @@ pub record Marked (corners labels : List ℕ) (n : ℕ) (work work′ : List ℕ
   pub far : drop n work′ ≡ drop n work
 
 -- questions 9, 5, 10 and 11 are asked
-pub record BeforeRules (corners labels : List ℕ) (p : ℕ) (work work′ : List ℕ) (r : ℕ) : Type 0 where
-  pub answer : r ≡ ask (known? labels) 9 (ask (listed? p corners) 5 (ask (every differ? (triangles corners)) 10 (ask (unopposed? corners labels) 11 0)))
+pub record BeforeRules (corners labels : List ℕ) (p : ℕ) (work work′ : List ℕ) (asked : Asked) : Type 0 where
+  pub answer : asked ≡ ask (known? labels) 9 (ask (listed? p corners) 5 (ask (every differ? (triangles corners)) 10 (ask (unopposed? corners labels) 11 Passed)))
   pub far : drop (lent corners p) work′ ≡ drop (lent corners p) work
 
--- and 7 and 12
-pub record Further (corners labels : List ℕ) (p : ℕ) (work work′ : List ℕ) (r : ℕ) : Type 0 where
-  pub answer : r ≡ furtherNumber p corners labels
+-- and then the rules
+pub record Further (corners labels : List ℕ) (p : ℕ) (work work′ : List ℕ) (asked : Asked) : Type 0 where
+  pub answer : asked ≡ furtherQuestions p corners labels
   pub words : Zeroed corners p work work′

@@ -1,12 +1,66 @@
-// The questions that all calls share: whether the lent lists are a surface, and then whether it is one that may be edited.
+// The questions that all calls share: whether the lent lists are a surface, and then whether it is one that may be edited; and why a call is refused.
 use halfedges::wide;
+use surface::Finding;
 ghost use mathlib.Core.Path.{_≡_};
 ghost use Prim.Native.Nat.{ℕ, _+_, _*_, _<_};
 ghost use Rattle.float.specs.Order.{isFinite};
 ghost use Rattle.halfedges.specs.Place.{at};
 ghost use Rattle.surface.specs.Check.{every};
-ghost use Rattle.questions.specs.Questions.{lentNumber, known?, listed?, Admits};
+ghost use Rattle.questions.specs.Refusal.{refusalNumber, refusalPlace, onFinding};
+ghost use Rattle.questions.specs.Questions.{lentQuestions, known?, listed?, Admits};
 ghost use Rattle.questions.specs.Stages.{Sized, Listed, opp, Marked, BeforeRules, Further};
+
+// Why a call is refused: the number of the question that it fails, or what is found in question 7's turn.
+pub enum Refusal {
+    Question(u32),
+    Repeated(u32, u32),
+    Lone(u32, u32),
+    Split(u32),
+}
+
+impl Refusal {
+    // The number of documents 01 and 02.
+    pub fn number(self) -> u32
+        ensures { λ r. ⌜ r ≡ refusalNumber self ⌝ }
+    {
+        match self {
+            Refusal::Question(number) => number,
+            Refusal::Repeated(_, _) => 31,
+            Refusal::Lone(_, _) => 32,
+            Refusal::Split(_) => 33,
+        }
+    }
+
+    // The two corners of the side as it runs, or the corner and 0; beside a question's number 0 and 0.
+    pub fn place(self) -> [u32; 2]
+        ensures { λ r. ⌜ r ≡ refusalPlace self ⌝ }
+    {
+        match self {
+            Refusal::Question(_) => [0, 0],
+            Refusal::Repeated(u, v) => [u, v],
+            Refusal::Lone(u, v) => [u, v],
+            Refusal::Split(v) => [v, 0],
+        }
+    }
+}
+
+// What questions in turn come to: all are passed, or the first "no".
+pub enum Asked {
+    Passed,
+    Refused(Refusal),
+}
+
+// Question 7's turn, by what is found of rules (b) and (c).
+pub fn on_finding(found: Finding) -> Asked
+    ensures { λ r. ⌜ r ≡ onFinding found ⌝ }
+{
+    match found {
+        Finding::Closed => Asked::Passed,
+        Finding::Repeated(u, v) => Asked::Refused(Refusal::Repeated(u, v)),
+        Finding::Lone(u, v) => Asked::Refused(Refusal::Lone(u, v)),
+        Finding::Split(v) => Asked::Refused(Refusal::Split(v)),
+    }
+}
 
 // Whether every value is finite. With no way out of the loop, several are tested at a time.
 fn all_finite(points: &[f64]) -> bool
@@ -21,32 +75,32 @@ fn all_finite(points: &[f64]) -> bool
     all
 }
 
-// Questions 1 to 4: the number of the first that is answered by "no", or 0.
-pub fn lent(points: &[f64], corners: &[u32], labels: &[u8], work: &[u32]) -> u32
-    ensures { λ r. ⌜ r ≡ lentNumber (now (points .entry)) (now (corners .entry)) (now (labels .entry)) (now (work .entry)) ⌝ }
+// Questions 1 to 4.
+pub fn lent(points: &[f64], corners: &[u32], labels: &[u8], work: &[u32]) -> Asked
+    ensures { λ r. ⌜ r ≡ lentQuestions (now (points .entry)) (now (corners .entry)) (now (labels .entry)) (now (work .entry)) ⌝ }
 {
     if points.len() % 3 != 0 {
-        return 1;
+        return Asked::Refused(Refusal::Question(1));
     }
     if corners.len() % 3 != 0 {
-        return 1;
+        return Asked::Refused(Refusal::Question(1));
     }
     if labels.len() != corners.len() / 3 {
-        return 1;
+        return Asked::Refused(Refusal::Question(1));
     }
     if points.len() / 3 > 32768 {
-        return 2;
+        return Asked::Refused(Refusal::Question(2));
     }
     if corners.len() / 3 > 32768 {
-        return 2;
+        return Asked::Refused(Refusal::Question(2));
     }
     if work.len() < corners.len() / 3 * 32 + points.len() / 3 * 16 {
-        return 3;
+        return Asked::Refused(Refusal::Question(3));
     }
     if all_finite(points) {
-        return 0;
+        return Asked::Passed;
     }
-    4
+    Asked::Refused(Refusal::Question(4))
 }
 
 // Whether every label is at most 7.
@@ -123,55 +177,54 @@ fn labels_agree(corners: &[u32], labels: &[u8], points: usize, work: &mut [u32])
 }
 
 // The questions before rules (b) to (d): 9, 5, 10 and 11.
-fn before_rules(corners: &[u32], labels: &[u8], points: usize, work: &mut [u32]) -> u32
+fn before_rules(corners: &[u32], labels: &[u8], points: usize, work: &mut [u32]) -> Asked
     requires { ⌜ Sized (now corners) (now labels) points (now work) ⌝ }
     ensures { λ r. ⌜ BeforeRules (now (corners .entry)) (now (labels .entry)) points (now (work .entry)) (now (work .exit)) r ⌝ }
 {
     if !labels_known(labels) {
-        return 9;
+        return Asked::Refused(Refusal::Question(9));
     }
     if !corners_listed(corners, points) {
-        return 5;
+        return Asked::Refused(Refusal::Question(5));
     }
     if !closing::corners_differ(corners) {
-        return 10;
+        return Asked::Refused(Refusal::Question(10));
     }
     if !labels_agree(corners, labels, points, work) {
-        return 11;
+        return Asked::Refused(Refusal::Question(11));
     }
-    0
+    Asked::Passed
 }
 
-// Questions 9, 5, 10, 11, 7 and 12. A closed surface is judged once; another is judged again for 7 or 12.
-fn further(corners: &[u32], labels: &[u8], points: usize, work: &mut [u32]) -> u32
+// The questions from 9 on, rules (a) to (d) among them. A closed surface is judged once; another is searched for what is wrong with (b) and (c), and where that is nothing, it is (d).
+fn further(corners: &[u32], labels: &[u8], points: usize, work: &mut [u32]) -> Asked
     requires { ⌜ Sized (now corners) (now labels) points (now work) ⌝ }
     ensures { λ r. ⌜ Further (now (corners .entry)) (now (labels .entry)) points (now (work .entry)) (now (work .exit)) r ⌝ }
 {
-    let number = before_rules(corners, labels, points, work);
-    if number != 0 {
+    if let Asked::Refused(why) = before_rules(corners, labels, points, work) {
         closing::clear(work, corners.len() / 3 * 32 + points * 16);
-        return number;
+        return Asked::Refused(why);
     }
     if closing::closed_surface(corners, points, work) {
-        return 0;
+        return Asked::Passed;
     }
-    if closing::closed_oriented_manifold(corners, points, work) {
-        return 12;
+    let found = closing::locate(corners, points, work);
+    if let Asked::Refused(why) = on_finding(found) {
+        return Asked::Refused(why);
     }
-    7
+    Asked::Refused(Refusal::Question(12))
 }
 
-// All questions that improving and editing share: the number of the first that is answered by "no", or 0.
-pub fn admitted(points: &[f64], corners: &[u32], labels: &[u8], work: &mut [u32]) -> u32
+// All questions that improving and editing share.
+pub fn admitted(points: &[f64], corners: &[u32], labels: &[u8], work: &mut [u32]) -> Asked
     ensures { λ r. ⌜ Admits (now (points .entry)) (now (corners .entry)) (now (labels .entry)) (now (work .entry)) (now (work .exit)) r ⌝ }
 {
-    let number = lent(points, corners, labels, work);
-    if number == 0 {
-        return further(corners, labels, points.len() / 3, work);
+    if let Asked::Refused(why) = lent(points, corners, labels, work) {
+        if why.number() == 4 {
+            closing::clear(work, corners.len() / 3 * 32 + points.len() / 3 * 16);
+            return Asked::Refused(why);
+        }
+        return Asked::Refused(why);
     }
-    if number == 4 {
-        closing::clear(work, corners.len() / 3 * 32 + points.len() / 3 * 16);
-        return 4;
-    }
-    number
+    further(corners, labels, points.len() / 3, work)
 }

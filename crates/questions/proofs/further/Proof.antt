@@ -1,4 +1,4 @@
--- `questions::further` meets its contract: the questions before the rules, then all rules at once, then (b) and (c) by themselves.
+-- `questions::further` meets its contract: the questions before the rules, then all rules at once, then what is found of (b) and (c).
 use Prim.Native.Nat.{ℕ, _+_, _*_, _/_}
 use mathlib.Core.Path.{_≡_, sym, ap, _∙_}
 use mathlib.Core.List.{List, _++_}
@@ -7,13 +7,13 @@ use native.Mathlib.Omega.{arith}
 use lib.ListN.{length, drop, replicate}
 use borrow.Author.Needs.{needs}
 use denote.Ref.{now}
-use Rattle.closing.specs.Closing.{Lent}
 use Rattle.closing.specs.Closing.{needed as words}
 use Rattle.closing.proofs.Whole.{far-clear}
+use Rattle.questions.specs.Refusal.{onFinding}
 use Rattle.questions.specs.Questions.{cleared}
 use Rattle.questions.specs.Stages.{Sized}
 use Rattle.questions.proofs.Counted.{cleared-same}
-use Rattle.questions.proofs.Chain.{before-stops, Passed, before-passes, lent, closed-zero, open-seven, twice-twelve}
+use Rattle.questions.proofs.Chain.{before-stops, Fit, before-fit, lent, closed-passed, open-found, twice-twelve}
 use Rattle.questions.proofs.further.Statement.{statement}
 use Rattle.questions.proofs.further.Tie as tie
 
@@ -24,15 +24,21 @@ start b = b .before .before .before .before .before
 again : (n : ℕ) (a b c : List ℕ) → drop n b ≡ drop n a → c ≡ cleared n b → c ≡ cleared n a
 again n a b c e h = h ∙ ap (λ (t : List ℕ). replicate n 0 ++ t) e
 
--- the lists are as they were when the rules are asked, with as many words
-passed : (c : tie.Else1) → Passed (start (c .before .before .before) .args .points) (now (start (c .before .before .before) .args .corners)) (now (start (c .before .before .before) .args .labels))
-passed c = before-passes _ _ _ (c .before .before .before .before-rules .ensures .answer) (c .if1 .left)
+-- where the rules are asked, the questions before them are passed, and there are as many words
+abbrev before : tie.After-enum-told → tie.After-before-rules
+before c = c .before .before .before .before
+
+fit : (c : tie.After-enum-told) → Fit (start (before c) .args .points) (now (start (before c) .args .corners)) (now (start (before c) .args .labels))
+fit c = before-fit _ _ _ (sym (before c .before-rules .ensures .answer) ∙ c .enum-told .given .1)
 
 resized : {cs ls w v : List ℕ} {p : ℕ} → length v ≡ length w → Sized cs ls p w → Sized cs ls p v
 resized e g = record { thirds = g .thirds; few = g .few; labelled = g .labelled; points = g .points; room = omega (arith, g .room) }
 
 before-rules-requires : tie.Need-before-rules-requires
 before-rules-requires c κs = search needs
+
+enum-known-why : tie.Need-enum-known-why
+enum-known-why c = search needs
 
 mul-clear : tie.Need-mul-clear
 mul-clear c = search needs
@@ -52,22 +58,24 @@ same-length c = search needs
 returns : tie.Need-returns
 returns c =
     let d = c .before .before in
-    let t = d .before .before in
-    let b = t .before .before .before in
+    let y = d .before .before .before in
+    let b = y .before .before .before .before in
     let s = start b in
     let cs = now (s .args .corners) in
     let p = s .args .points in
     let n : length cs / 3 * 32 + p * 16 ≡ words cs p = omega arith in
     record {
-      answer = before-stops p cs (now (s .args .labels)) (b .before-rules .ensures .answer) (t .if1 .taken);
+      answer = before-stops p cs (now (s .args .labels)) (sym (y .why .given .1) ∙ b .before-rules .ensures .answer);
       words = again (words cs p) (now (s .args .work)) (b .before-rules .last .1 .1 .1 .0) _ (b .before-rules .ensures .far) (cleared-same (b .before-rules .last .1 .1 .1 .0) n (d .clear .ensures));
     }
+
+enum-told : tie.Need-enum-told
+enum-told c = search needs
 
 closed-surface-requires : tie.Need-closed-surface-requires
 closed-surface-requires c κs =
     let e = c .before in
-    let b = e .before .before .before in
-    lent _ _ _ (passed e) (resized (b .before-rules .kept .1 .1 .1 .0) (start b .pre))
+    lent _ _ _ (fit e) (resized (before e .before-rules .kept .1 .1 .1 .0) (start (before e) .pre))
 
 same-length-2 : tie.Need-same-length-2
 same-length-2 c = search needs
@@ -76,54 +84,68 @@ returns-2 : tie.Need-returns-2
 returns-2 c =
     let k = c .before .before .before in
     let e = k .before .before in
-    let b = e .before .before .before in
+    let b = before e in
     let s = start b in
     record {
-      answer = closed-zero _ _ _ (passed e) (k .closed-surface .ensures .decides .0 (c .if2 .taken));
+      answer = closed-passed _ _ _ (fit e) (k .closed-surface .ensures .decides .0 (c .if1 .taken));
       words = again (words (now (s .args .corners)) (s .args .points)) (now (s .args .work)) (b .before-rules .last .1 .1 .1 .0) _ (b .before-rules .ensures .far) (k .closed-surface .ensures .zeroed);
     }
 
-closed-oriented-manifold-requires : tie.Need-closed-oriented-manifold-requires
-closed-oriented-manifold-requires c κs =
+locate-requires : tie.Need-locate-requires
+locate-requires c κs =
     let k = c .before .before .before .before in
     let e = k .before .before in
-    let b = e .before .before .before in
-    lent _ _ _ (passed e) (resized (k .closed-surface .kept .1 .1 .0 ∙ b .before-rules .kept .1 .1 .1 .0) (start b .pre))
+    lent _ _ _ (fit e) (resized (k .closed-surface .kept .1 .1 .0 ∙ before e .before-rules .kept .1 .1 .1 .0) (start (before e) .pre))
+
+on-finding-requires : tie.Need-on-finding-requires
+on-finding-requires c κs = search needs
+
+enum-known-why-2 : tie.Need-enum-known-why-2
+enum-known-why-2 c = search needs
+
+-- the words after the surface was judged and searched
+abbrev judged : tie.After-locate → tie.After-closed-surface
+judged m = m .before .before .before .before .before
+
+cleared-twice : (m : tie.After-locate) →
+    let e = judged m .before .before in
+    m .locate .last .1 .1 .0 ≡ cleared (words (now (start (before e) .args .corners)) (start (before e) .args .points)) (now (start (before e) .args .work))
+cleared-twice m =
+    let k = judged m in
+    let b = before (k .before .before) in
+    let s = start b in
+    let n = words (now (s .args .corners)) (s .args .points) in
+    again n (now (s .args .work)) (k .closed-surface .last .1 .1 .0) _ (far-clear n (k .closed-surface .last .1 .1 .0) (b .before-rules .last .1 .1 .1 .0) (k .closed-surface .ensures .zeroed) ∙ b .before-rules .ensures .far)
+    (m .locate .ensures .zeroed)
 
 same-length-3 : tie.Need-same-length-3
 same-length-3 c = search needs
 
 returns-3 : tie.Need-returns-3
 returns-3 c =
-    let m = c .before .before .before in
-    let f = m .before .before in
-    let k = f .before .before .before in
-    let e = k .before .before in
-    let b = e .before .before .before in
-    let s = start b in
-    let n = words (now (s .args .corners)) (s .args .points) in
+    let y = c .before in
+    let f = y .before .before in
+    let m = f .before .before .before in
     record {
-      answer = twice-twelve _ _ _ (passed e) (m .closed-oriented-manifold .ensures .decides .0 (c .if3 .taken)) (λ x. true≢false (sym (k .closed-surface .ensures .decides .1 x) ∙ f .if2 .left));
-      words = again n (now (s .args .work)) (k .closed-surface .last .1 .1 .0) _ (far-clear n (k .closed-surface .last .1 .1 .0) (b .before-rules .last .1 .1 .1 .0) (k .closed-surface .ensures .zeroed) ∙ b .before-rules .ensures .far)
-          (m .closed-oriented-manifold .ensures .zeroed);
+      answer = open-found _ _ _ (fit (judged m .before .before)) (ap onFinding (sym (m .locate .ensures .answer)) ∙ sym (f .on-finding .ensures) ∙ y .why2 .given .1);
+      words = cleared-twice m;
     }
+
+enum-told-2 : tie.Need-enum-told-2
+enum-told-2 c = search needs
 
 same-length-4 : tie.Need-same-length-4
 same-length-4 c = search needs
 
 returns-4 : tie.Need-returns-4
 returns-4 c =
-    let m = c .before .before .before in
-    let f = m .before .before in
-    let k = f .before .before .before in
-    let e = k .before .before in
-    let b = e .before .before .before in
-    let s = start b in
-    let n = words (now (s .args .corners)) (s .args .points) in
+    let f = c .before .before in
+    let m = f .before .before .before in
+    let k = judged m in
     record {
-      answer = open-seven _ _ _ (passed e) (λ x. true≢false (sym (m .closed-oriented-manifold .ensures .decides .1 x) ∙ c .if3 .left));
-      words = again n (now (s .args .work)) (k .closed-surface .last .1 .1 .0) _ (far-clear n (k .closed-surface .last .1 .1 .0) (b .before-rules .last .1 .1 .1 .0) (k .closed-surface .ensures .zeroed) ∙ b .before-rules .ensures .far)
-          (m .closed-oriented-manifold .ensures .zeroed);
+      answer = twice-twelve _ _ _ (fit (k .before .before)) (ap onFinding (sym (m .locate .ensures .answer)) ∙ sym (f .on-finding .ensures) ∙ c .enum-told2 .given .1)
+          (λ x. true≢false (sym (k .closed-surface .ensures .decides .1 x) ∙ m .before .before .if1 .left));
+      words = cleared-twice m;
     }
 
 pub further-spec : {M : Type 1} → statement M
@@ -131,17 +153,22 @@ further-spec =
     tie.close
     (tie.spec
     before-rules-requires
+    enum-known-why
     mul-clear
     mul-clear-2
     add-clear
     clear-requires
     same-length
     returns
+    enum-told
     closed-surface-requires
     same-length-2
     returns-2
-    closed-oriented-manifold-requires
+    locate-requires
+    on-finding-requires
+    enum-known-why-2
     same-length-3
     returns-3
+    enum-told-2
     same-length-4
     returns-4)
