@@ -1,7 +1,7 @@
 -- A whole call: what each end leaves is what `EditRun` says.
 use Prim.Native.Nat.{ℕ, zero, suc, _+_, _*_, _-_, _/_, _%_, _≤_, _<_}
 use mathlib.Core.Path.{_≡_, refl, sym, _∙_, ap, ap₂, subst}
-use mathlib.Core.Bool.{Bool, true, false, _&&_, cond}
+use mathlib.Core.Bool.{Bool, true, false, _&&_}
 use mathlib.Core.List.{List, [], _∷_, _++_, append-nil}
 use native.Mathlib.Omega.{arith}
 use lib.Dec.{eqb}
@@ -15,9 +15,14 @@ use Rattle.surface.specs.Euler.{Below}
 use Rattle.surface.specs.Flat.{held}
 use Rattle.surface.proofs.Flat.{length-triangles, corners-triangles, length-corners}
 use Rattle.surface.proofs.Held.{length-held}
-use Rattle.questions.specs.Questions.{needed as words-needed, ask, surfaceNumber, cleared, workAfter, Admits}
+use Rattle.questions.specs.Questions.{needed as words-needed, ask, andThen, cleared, workAfter, Admits}
+use Rattle.questions.specs.Refusal.{refusalNumber, askedNumber}
 use Rattle.questions.specs.Admitted.{Admitted}
-use Rattle.questions.proofs.Laws.{number-admitted}
+use Rattle.questions.specs.declared.Refusal.{Refusal}
+use Rattle.questions.specs.declared.Refusal.the-variants.{Question}
+use Rattle.questions.specs.declared.Asked.{Asked}
+use Rattle.questions.specs.declared.Asked.the-variants as asked
+use Rattle.questions.proofs.Laws.{passed-admitted}
 use Rattle.history.specs.History.{Pair, History, last, inForce, begun, after, verdicts}
 use Rattle.history.specs.Lists.{lentPair, entries, records, thenZero, historyOf}
 use Rattle.history.specs.Flat.{pairOf}
@@ -26,7 +31,7 @@ use Rattle.history.specs.Entry.{needed, Good, Standing}
 use Rattle.editing.specs.Held.{Holds}
 use Rattle.editing.specs.Run.{Starting, first, Ran}
 use Rattle.editing.proofs.Held.{records-length}
-use Rattle.editing.specs.Edit.{editNumber, answerOf, unlessRefused, EditRun}
+use Rattle.editing.specs.Edit.{editQuestions, answerOf, EditRun}
 use Rattle.editing.specs.declared.Outcome.{Outcome}
 use Rattle.editing.specs.declared.Outcome.the-variants.{Edited, Refused}
 
@@ -75,53 +80,51 @@ module _ {points : List Float} {c l w : List ℕ} (a : Admitted points c l w) wh
     work = let x = a .enough-words in let y = a .a-label-each in omega arith;
   }
 
-as-lent : (number : ℕ) → (number ≡ 0 → ⊥) → (lent made : List ℕ) → lent ≡ unlessRefused number lent made
-as-lent number n lent made = rw (ne-eqb number 0 n)
-
 -- a call that is refused
 module _ (points : List Float) (c l w es v j : List ℕ) where
   abbrev h : History
   h = historyOf c l es j
 
-  refused : (number : ℕ) → (number ≡ 0 → ⊥) → editNumber points c l w es v ≡ number → {w′ : List ℕ} → w′ ≡ workAfter number points c w → EditRun points c l w es v j c l w′ v j (Refused number)
-  refused number n e f = record {
-    answer = sym (ap (λ (q : ℕ). answerOf q h) e ∙ ap (λ (t : Bool). cond t (Edited (length (last h .tris)) (inForce h)) (Refused number)) (ne-eqb number 0 n));
-    corners = as-lent number n c _;
-    labels = as-lent number n l _;
-    verdicts = as-lent number n v _;
-    journal = as-lent number n j _;
+  refused : (why : Refusal) → editQuestions points c l w es v ≡ asked.Refused why → {w′ : List ℕ} → w′ ≡ workAfter (refusalNumber why) points c w → EditRun points c l w es v j c l w′ v j (Refused why)
+  refused why e f = record {
+    answer = sym (ap (λ (q : Asked). answerOf q h) e);
+    corners = refl;
+    labels = refl;
+    verdicts = refl;
+    journal = refl;
     work = f;
   }
 
-  -- by a question about the surface
-  pub refused-surface : {number : ℕ} {w′ : List ℕ} → Admits points c l w w′ number → (number ≡ 0 → ⊥) → EditRun points c l w es v j c l w′ v j (Refused number)
-  unfolding editNumber
-  refused-surface {number} a n =
-      refused number n (ap (λ (q : ℕ). ask (eqb q 0) q (ask (eqb (length es % 3) 0 && eqb (length v) (length es / 3)) 15 0)) (sym (a .answer)) ∙ ap (λ (t : Bool). ask t number (ask (eqb (length es % 3) 0 && eqb (length v) (length es / 3)) 15 0)) (ne-eqb number 0 n))
-      (a .words)
+  module _ {a : Asked} {w′ : List ℕ} (d : Admits points c l w w′ a) where
+    answer-is : {b : Asked} → a ≡ b → editQuestions points c l w es v ≡ andThen b (ask (eqb (length es % 3) 0 && eqb (length v) (length es / 3)) 15 asked.Passed)
+    unfolding editQuestions
+    answer-is e = ap (λ (q : Asked). andThen q (ask (eqb (length es % 3) 0 && eqb (length v) (length es / 3)) 15 asked.Passed)) (sym (d .answer) ∙ e)
 
-  module _ {number : ℕ} {w′ : List ℕ} (a : Admits points c l w w′ number) (z : number ≡ 0) where
-    number-is : editNumber points c l w es v ≡ ask (eqb (length es % 3) 0 && eqb (length v) (length es / 3)) 15 0
-    unfolding editNumber
-    number-is = ap (λ (q : ℕ). ask (eqb q 0) q (ask (eqb (length es % 3) 0 && eqb (length v) (length es / 3)) 15 0)) (sym (a .answer) ∙ z)
+    words-are : {b : Asked} → a ≡ b → w′ ≡ workAfter (askedNumber b) points c w
+    words-are e = d .words ∙ ap (λ (q : Asked). workAfter (askedNumber q) points c w) e
 
-    pub cleared-words : w′ ≡ cleared (words-needed points c) w
-    cleared-words = a .words ∙ ap (λ (q : ℕ). workAfter q points c w) z
+    -- by a question about the surface
+    pub refused-surface : {why : Refusal} → a ≡ asked.Refused why → EditRun points c l w es v j c l w′ v j (Refused why)
+    refused-surface {why} e = refused why (answer-is e) (words-are e)
+
+  module _ {a : Asked} {w′ : List ℕ} (d : Admits points c l w w′ a) (z : a ≡ asked.Passed) where
+    cleared-words : w′ ≡ cleared (words-needed points c) w
+    cleared-words = words-are d z
 
     -- by question 15
-    pub no-threes : (length es % 3 ≡ 0 → ⊥) → EditRun points c l w es v j c l w′ v j (Refused 15)
-    no-threes n = refused 15 (λ q. omega arith) (number-is ∙ ap (λ (t : Bool). ask (t && eqb (length v) (length es / 3)) 15 0) (ne-eqb (length es % 3) 0 n)) cleared-words
+    pub no-threes : (length es % 3 ≡ 0 → ⊥) → EditRun points c l w es v j c l w′ v j (Refused (Question 15))
+    no-threes n = refused (Question 15) (answer-is d z ∙ ap (λ (t : Bool). ask (t && eqb (length v) (length es / 3)) 15 asked.Passed) (ne-eqb (length es % 3) 0 n)) cleared-words
 
-    pub no-word-each : length es % 3 ≡ 0 → (length v ≡ length es / 3 → ⊥) → EditRun points c l w es v j c l w′ v j (Refused 15)
+    pub no-word-each : length es % 3 ≡ 0 → (length v ≡ length es / 3 → ⊥) → EditRun points c l w es v j c l w′ v j (Refused (Question 15))
     no-word-each e n =
-        refused 15 (λ q. omega arith)
-        (number-is ∙ ap (λ (t : Bool). ask (t && eqb (length v) (length es / 3)) 15 0) (eq-eqb (length es % 3) 0 e) ∙ ap (λ (t : Bool). ask t 15 0) (ne-eqb (length v) (length es / 3) n))
+        refused (Question 15)
+        (answer-is d z ∙ ap (λ (t : Bool). ask (t && eqb (length v) (length es / 3)) 15 asked.Passed) (eq-eqb (length es % 3) 0 e) ∙ ap (λ (t : Bool). ask t 15 asked.Passed) (ne-eqb (length v) (length es / 3) n))
         cleared-words
 
     -- the run is started
     module _ (e : length es % 3 ≡ 0) (f : length v ≡ length es / 3) (same : length w′ ≡ length w) {j₁ : List ℕ} (size : length j₁ ≡ length j) (clear : j₁ ≡ replicate (length j) 0 ++ drop (length j) j) where
       admits : Admitted points c l w
-      admits = number-admitted points c l w (sym (a .answer) ∙ z)
+      admits = passed-admitted points c l w (sym (d .answer) ∙ z)
 
       pub starting : Starting (length points / 3) c l w′ es v j₁
       starting = record {
@@ -183,12 +186,12 @@ module _ (points : List Float) (c l w es v j : List ℕ) where
             subst (λ (x : ℕ). drop x w₂ ≡ drop x w′) q (r .further) ∙ ap (drop (words-needed points c)) cleared-words
             ∙ drop-at (replicate (words-needed points c) 0) (drop (words-needed points c) w) (words-needed points c) (length-replicate (words-needed points c) 0)
 
-        number-0 : editNumber points c l w es v ≡ 0
-        number-0 = number-is ∙ ap₂ (λ (s t : Bool). ask (s && t) 15 0) (eq-eqb (length es % 3) 0 e) (eq-eqb (length v) (length es / 3) f)
+        all-passed : editQuestions points c l w es v ≡ asked.Passed
+        all-passed = answer-is d z ∙ ap₂ (λ (s t : Bool). ask (s && t) 15 asked.Passed) (eq-eqb (length es % 3) 0 e) (eq-eqb (length v) (length es / 3) f)
 
         pub edited : {w₃ : List ℕ} → w₃ ≡ replicate (length c′ / 3 * 32 + length points / 3 * 16) 0 ++ drop (length c′ / 3 * 32 + length points / 3 * 16) w₂ → EditRun points c l w es v j c′ l′ w₃ v′ j′ (Edited n k)
         edited g = record {
-          answer = sym (ap (λ (q : ℕ). answerOf q h) number-0 ∙ ap₂ Edited size-is (holds .count));
+          answer = sym (ap (λ (q : Asked). answerOf q h) all-passed ∙ ap₂ Edited size-is (holds .count));
           corners = corners-is;
           labels = labels-are;
           verdicts = r .words ∙ ap₂ (λ (x : ℕ) (p : Pair). verdicts (x / 12) (begun p) (entries es)) size (whole-pair c l (thirds admits));

@@ -9,6 +9,8 @@ ghost use Rattle.editing.specs.Held.{Held, Returned, Entered, Noted};
 ghost use Rattle.editing.specs.Run.{Starting, Ran};
 ghost use Rattle.editing.specs.Edit.{EditRun};
 use entries::Came;
+use questions::Asked;
+use questions::Refusal;
 
 // The record at place k of the journal.
 fn read_record(journal: &[u32], k: usize) -> [u32; 12]
@@ -257,10 +259,10 @@ fn run(
     Left { n, k }
 }
 
-// The answer of an edit run: triangles left and edits in force, or the number of the question that was answered by "no".
+// The answer of an edit run: triangles left and edits in force, or why the call is refused.
 pub enum Outcome {
     Edited(usize, usize),
-    Refused(u32),
+    Refused(Refusal),
 }
 
 // An edit run: entries of three words each (kind, a, b), a verdict word for each, and the journal of the edits in force.
@@ -275,15 +277,14 @@ pub fn edit(
 ) -> Outcome
     ensures { λ r. ⌜ EditRun (now (points .entry)) (now (corners .entry)) (now (labels .entry)) (now (work .entry)) (now (entries .entry)) (now (verdicts .entry)) (now (journal .entry)) (now (corners .exit)) (now (labels .exit)) (now (work .exit)) (now (verdicts .exit)) (now (journal .exit)) r ⌝ }
 {
-    let number = questions::admitted(points, corners, labels, work);
-    if number != 0 {
-        return Outcome::Refused(number);
+    if let Asked::Refused(why) = questions::admitted(points, corners, labels, work) {
+        return Outcome::Refused(why);
     }
     if entries.len() % 3 != 0 {
-        return Outcome::Refused(15);
+        return Outcome::Refused(Refusal::Question(15));
     }
     if verdicts.len() != entries.len() / 3 {
-        return Outcome::Refused(15);
+        return Outcome::Refused(Refusal::Question(15));
     }
     let size = journal.len();
     closing::clear(journal, size);

@@ -2,22 +2,27 @@
 use Prim.Native.Nat.{ℕ, _+_, _*_, _/_, _≤_, _<_}
 use native.Mathlib.Omega.{arith}
 use mathlib.Core.Path.{_≡_, refl, sym, ap, ap₂, _∙_}
-use mathlib.Core.Bool.{Bool, true, false, cond}
+use mathlib.Core.Bool.{Bool, true, false}
 use mathlib.Core.List.{List, _++_}
-use lib.Dec.{eqb, leb}
+use lib.Dec.{leb}
 use lib.Ieee.{Float}
 use lib.ListN.{length, take, drop, replicate, length-replicate}
 use lib.Seq.{drop-at, length-front, length-take-le}
-use borrow.Author.Tests.{ne-eqb, le-leb, lt-leb}
+use borrow.Author.Tests.{le-leb, lt-leb}
 use Rattle.field.specs.Valid.{sheetOk}
-use Rattle.questions.specs.Questions.{needed, ask, surfaceNumber, cleared, workAfter, Admits}
+use Rattle.questions.specs.Questions.{needed, ask, andThen, cleared, workAfter, Admits}
+use Rattle.questions.specs.Refusal.{refusalNumber, askedNumber}
 use Rattle.questions.specs.Admitted.{Admitted}
-use Rattle.questions.proofs.Laws.{number-admitted}
+use Rattle.questions.specs.declared.Refusal.{Refusal}
+use Rattle.questions.specs.declared.Refusal.the-variants.{Question}
+use Rattle.questions.specs.declared.Asked.{Asked}
+use Rattle.questions.specs.declared.Asked.the-variants as asked
+use Rattle.questions.proofs.Laws.{passed-admitted}
 use Rattle.oracle.specs.Round.{Result, count}
 use Rattle.oracle.proofs.Safe.{safe-after}
 use Rattle.flips.specs.Whole.{meshOf, sheetOf}
 use Rattle.improving.specs.Rounded.{Improvable, Rounded}
-use Rattle.improving.specs.Improve.{improveNumber, improved, answerOf, unlessRefused, Improving}
+use Rattle.improving.specs.Improve.{improveQuestions, improved, answerOf, Improving}
 use Rattle.improving.specs.declared.Outcome.{Outcome}
 use Rattle.improving.specs.declared.Outcome.the-variants.{Improved, Refused}
 use Rattle.improving.proofs.Running.{fine-first}
@@ -39,9 +44,9 @@ improvable-in {ps} {c} {ls} a v r =
 pub improvable-of : {ps : List Float} {c ls w : List ℕ} → Admitted ps c ls w → Improvable ps c ls w
 improvable-of {w = w} a = improvable-in a w (a .enough-words)
 
-module _ {ps : List Float} {c ls w w′ : List ℕ} {number : ℕ} (q : Admits ps c ls w w′ number) (z : number ≡ 0) (same : length w′ ≡ length w) where
+module _ {ps : List Float} {c ls w w′ : List ℕ} {a : Asked} (d : Admits ps c ls w w′ a) (z : a ≡ asked.Passed) (same : length w′ ≡ length w) where
   admits : Admitted ps c ls w
-  admits = number-admitted ps c ls w (sym (q .answer) ∙ z)
+  admits = passed-admitted ps c ls w (sym (d .answer) ∙ z)
 
   pub room : length c / 3 * 32 + length ps / 3 * 16 ≤ length w′
   room = let x = admits .enough-words in omega arith
@@ -53,50 +58,42 @@ module _ {ps : List Float} {c ls w w′ : List ℕ} {number : ℕ} (q : Admits p
   pub words-stay : (v : List ℕ) → length v ≡ length (take (length c / 3 * 32 + length ps / 3 * 16) w′) → length c / 3 * 32 + length ps / 3 * 16 ≤ length (v ++ drop (length c / 3 * 32 + length ps / 3 * 16) w′)
   words-stay v e = let x = length-front w′ v (length c / 3 * 32 + length ps / 3 * 16) e in let y = room in omega arith
 
-as-lent : {A : Type 0} (number : ℕ) → (number ≡ 0 → ⊥) → (lent made : List A) → lent ≡ unlessRefused number lent made
-as-lent number n lent made = rw (ne-eqb number 0 n)
-
 module _ (ps : List Float) (c ls w : List ℕ) (qs : List Float) (ns : List ℕ) (levels bounds : List Float) (n : ℕ) where
   abbrev r : Result
   r = improved ps c ls qs ns n
 
-  abbrev last-two : Bool → Bool → ℕ
-  last-two s t = ask s 13 (ask t 14 0)
+  abbrev last-two : Bool → Bool → Asked
+  last-two s t = ask s 13 (ask t 14 asked.Passed)
 
   -- a call is refused
-  refused : (number : ℕ) → (number ≡ 0 → ⊥) → improveNumber ps c ls w qs ns levels bounds n ≡ number → {w′ : List ℕ} → w′ ≡ workAfter number ps c w
-      → Improving ps c ls w qs ns levels bounds n ps c ls w′ (Refused number)
-  refused number z e f = record {
-    answer = sym (ap (λ (q : ℕ). answerOf q r) e ∙ ap (λ (t : Bool). cond t (Improved (count (r .mesh)) (length (r .mesh .pair .tris)) (r .flips)) (Refused number)) (ne-eqb number 0 z));
-    points = as-lent number z ps _;
-    corners = as-lent number z c _;
-    labels = as-lent number z ls _;
-    work = f;
-  }
+  refused : (why : Refusal) → improveQuestions ps c ls w qs ns levels bounds n ≡ asked.Refused why → {w′ : List ℕ} → w′ ≡ workAfter (refusalNumber why) ps c w
+      → Improving ps c ls w qs ns levels bounds n ps c ls w′ (Refused why)
+  refused why e f = record { answer = sym (ap (λ (q : Asked). answerOf q r) e); points = refl; corners = refl; labels = refl; work = f }
 
-  number-from : {number : ℕ} → number ≡ surfaceNumber ps c ls w → improveNumber ps c ls w qs ns levels bounds n ≡ ask (eqb number 0) number (last-two (sheetOk qs ns levels bounds) (leb n 1000))
-  unfolding improveNumber
-  number-from e = ap (λ (q : ℕ). ask (eqb q 0) q (last-two (sheetOk qs ns levels bounds) (leb n 1000))) (sym e)
+  module _ {a : Asked} {w′ : List ℕ} (d : Admits ps c ls w w′ a) where
+    answer-is : {b : Asked} → a ≡ b → improveQuestions ps c ls w qs ns levels bounds n ≡ andThen b (last-two (sheetOk qs ns levels bounds) (leb n 1000))
+    unfolding improveQuestions
+    answer-is e = ap (λ (q : Asked). andThen q (last-two (sheetOk qs ns levels bounds) (leb n 1000))) (sym (d .answer) ∙ e)
 
-  -- by a question about the surface
-  pub refused-surface : {number : ℕ} {w′ : List ℕ} → Admits ps c ls w w′ number → (number ≡ 0 → ⊥) → Improving ps c ls w qs ns levels bounds n ps c ls w′ (Refused number)
-  refused-surface {number} a z = refused number z (number-from (a .answer) ∙ ap (λ (t : Bool). ask t number (last-two (sheetOk qs ns levels bounds) (leb n 1000))) (ne-eqb number 0 z)) (a .words)
+    words-are : {b : Asked} → a ≡ b → w′ ≡ workAfter (askedNumber b) ps c w
+    words-are e = d .words ∙ ap (λ (q : Asked). workAfter (askedNumber q) ps c w) e
 
-  module _ {number : ℕ} {w′ : List ℕ} (a : Admits ps c ls w w′ number) (z : number ≡ 0) where
-    number-is : improveNumber ps c ls w qs ns levels bounds n ≡ last-two (sheetOk qs ns levels bounds) (leb n 1000)
-    number-is = number-from (a .answer) ∙ ap (λ (q : ℕ). ask (eqb q 0) q (last-two (sheetOk qs ns levels bounds) (leb n 1000))) z
+    -- by a question about the surface
+    pub refused-surface : {why : Refusal} → a ≡ asked.Refused why → Improving ps c ls w qs ns levels bounds n ps c ls w′ (Refused why)
+    refused-surface {why} e = refused why (answer-is e) (words-are e)
 
+  module _ {a : Asked} {w′ : List ℕ} (d : Admits ps c ls w w′ a) (z : a ≡ asked.Passed) where
     cleared-words : w′ ≡ cleared (needed ps c) w
-    cleared-words = a .words ∙ ap (λ (q : ℕ). workAfter q ps c w) z
+    cleared-words = words-are d z
 
     -- by question 13
-    pub no-sheet : sheetOk qs ns levels bounds ≡ false → Improving ps c ls w qs ns levels bounds n ps c ls w′ (Refused 13)
-    no-sheet s = refused 13 (λ q. omega arith) (number-is ∙ ap (λ (t : Bool). last-two t (leb n 1000)) s) cleared-words
+    pub no-sheet : sheetOk qs ns levels bounds ≡ false → Improving ps c ls w qs ns levels bounds n ps c ls w′ (Refused (Question 13))
+    no-sheet s = refused (Question 13) (answer-is d z ∙ ap (λ (t : Bool). last-two t (leb n 1000)) s) cleared-words
 
     module _ (s : sheetOk qs ns levels bounds ≡ true) where
       -- by question 14
-      pub too-many : 1000 < n → Improving ps c ls w qs ns levels bounds n ps c ls w′ (Refused 14)
-      too-many l = refused 14 (λ q. omega arith) (number-is ∙ ap₂ last-two s (lt-leb n 1000 l)) cleared-words
+      pub too-many : 1000 < n → Improving ps c ls w qs ns levels bounds n ps c ls w′ (Refused (Question 14))
+      too-many l = refused (Question 14) (answer-is d z ∙ ap₂ last-two s (lt-leb n 1000 l)) cleared-words
 
       -- or the rounds have come to their end, and the needed words are cleared
       module _ (l : n ≤ 1000) (same : length w′ ≡ length w) where
@@ -106,12 +103,12 @@ module _ (ps : List Float) (c ls w : List ℕ) (qs : List Float) (ns : List ℕ)
         need-is : length c / 3 * 32 + length ps / 3 * 16 ≡ needed ps c
         need-is = omega arith
 
-        number-0 : improveNumber ps c ls w qs ns levels bounds n ≡ 0
-        number-0 = number-is ∙ ap₂ last-two s (le-leb n 1000 l)
+        all-passed : improveQuestions ps c ls w qs ns levels bounds n ≡ asked.Passed
+        all-passed = answer-is d z ∙ ap₂ last-two s (le-leb n 1000 l)
 
         further : (v : List ℕ) → length v ≡ length (take need w′) → drop need (v ++ drop need w′) ≡ drop need w
         further v e =
-            drop-at v (drop need w′) need (e ∙ length-take-le need w′ (room a z same))
+            drop-at v (drop need w′) need (e ∙ length-take-le need w′ (room d z same))
             ∙ ap (drop need) cleared-words
             ∙ drop-at (replicate (needed ps c) 0) (drop (needed ps c) w) need (length-replicate (needed ps c) 0 ∙ sym need-is)
             ∙ ap (λ (k : ℕ). drop k w) (sym need-is)
@@ -121,12 +118,12 @@ module _ (ps : List Float) (c ls w : List ℕ) (qs : List Float) (ns : List ℕ)
             → w₃ ≡ replicate (length c / 3 * 32 + length ps / 3 * 16) 0 ++ drop (length c / 3 * 32 + length ps / 3 * 16) (v ++ drop (length c / 3 * 32 + length ps / 3 * 16) w′)
             → Improving ps c ls w qs ns levels bounds n ps′ c′ ls′ w₃ (Improved p t k)
         improves {p = p} {t} {k} x v e g =
-            let h = handed a z same in
+            let h = handed d z same in
             let y = safe-after (sheetOf qs ns) n (meshOf ps c ls) (h .closed) (fine-first h .labelled) in
             let ep : p ≡ count (r .mesh) = let q = x .points in omega arith in
             let et : t ≡ length (r .mesh .pair .tris) = sym (x .triangles) ∙ y .labelled in
             record {
-              answer = (λ i. Improved (ep i) (et i) (x .flips i)) ∙ sym (ap (λ (q : ℕ). answerOf q r) number-0);
+              answer = (λ i. Improved (ep i) (et i) (x .flips i)) ∙ sym (ap (λ (q : Asked). answerOf q r) all-passed);
               points = x .holds .points;
               corners = x .holds .corners;
               labels = x .holds .labels;

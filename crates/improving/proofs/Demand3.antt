@@ -1,21 +1,20 @@
 -- Demand 3 of the rounds: it holds of every call of `improve` that is let in, by what `improve` promises of every call and by the theorems on rounds.
 use Prim.Native.Nat.{ℕ, _/_, _≤_}
 use mathlib.Core.Path.{_≡_, refl}
-use mathlib.Core.Bool.{Bool, true, false, cond}
 use mathlib.Core.List.{List}
 use native.Mathlib.Omega.{arith}
-use lib.Dec.{eqb}
 use lib.ListN.{length}
 use lib.Ieee.{Float}
-use borrow.Author.Tests.{eqb-true}
-use Rattle.questions.specs.Questions.{surfaceNumber}
+use Rattle.questions.specs.Questions.{surfaceQuestions}
 use Rattle.questions.specs.Admitted.{Admitted}
-use Rattle.questions.proofs.Laws.{number-admitted, first-zero}
+use Rattle.questions.specs.declared.Asked.{Asked}
+use Rattle.questions.specs.declared.Asked.the-variants as asked
+use Rattle.questions.proofs.Laws.{passed-admitted, first-passed}
 use Rattle.oracle.specs.Round.{Result, count}
 use Rattle.oracle.proofs.Safe.{safe-after}
 use Rattle.oracle.proofs.Domain.{same-rounds}
 use Rattle.flips.specs.Whole.{meshOf, sheetOf}
-use Rattle.improving.specs.Improve.{improveNumber, improved, answerOf, Improving}
+use Rattle.improving.specs.Improve.{improveQuestions, improved, answerOf, Improving}
 use Rattle.improving.specs.Demand3.{Demand3}
 use Rattle.improving.specs.declared.Outcome.{Outcome}
 use Rattle.improving.specs.declared.Outcome.the-variants.{Improved, Refused}
@@ -23,22 +22,19 @@ use Rattle.improving.proofs.Running.{Fine, fine-first, fine-after}
 use Rattle.improving.proofs.Call.{improvable-of}
 
 -- an answer of three numbers is that of the rounds, and no question was answered by "no"
-let-in : (q p t k : ℕ) (r : Result) → Improved p t k ≡ answerOf q r → (q ≡ 0) × (p ≡ count (r .mesh)) × (t ≡ length (r .mesh .pair .tris)) × (k ≡ r .flips)
-let-in q p t k r e = go (eqb q 0) refl e
-  where
-    go : (b : Bool) → eqb q 0 ≡ b → Improved p t k ≡ cond b (Improved (count (r .mesh)) (length (r .mesh .pair .tris)) (r .flips)) (Refused q) → (q ≡ 0) × (p ≡ count (r .mesh)) × (t ≡ length (r .mesh .pair .tris)) × (k ≡ r .flips)
-    go true f g = (eqb-true q 0 f, (cc), (cc), (cc))
-    go false f g = let z : _≡_ {A = ℕ} 0 1 = cc in absurd (omega arith)
+let-in : (q : Asked) (p t k : ℕ) (r : Result) → Improved p t k ≡ answerOf q r → (q ≡ asked.Passed) × (p ≡ count (r .mesh)) × (t ≡ length (r .mesh .pair .tris)) × (k ≡ r .flips)
+let-in asked.Passed p t k r e = (refl, (cc), (cc), (cc))
+let-in (asked.Refused why) p t k r e = let z : _≡_ {A = ℕ} 0 1 = cc in absurd (omega arith)
 
 module _ {points₀ : List Float} {corners₀ labels₀ work₀ : List ℕ} {coefficients : List Float} {powers : List ℕ} {levels bounds : List Float} {n : ℕ} {points₁ : List Float} {corners₁ labels₁ work₁ : List ℕ} {p t k : ℕ}
     (r : Improving points₀ corners₀ labels₀ work₀ coefficients powers levels bounds n points₁ corners₁ labels₁ work₁ (Improved p t k)) where
-  answered : (improveNumber points₀ corners₀ labels₀ work₀ coefficients powers levels bounds n ≡ 0) × (p ≡ count (improved points₀ corners₀ labels₀ coefficients powers n .mesh))
+  answered : (improveQuestions points₀ corners₀ labels₀ work₀ coefficients powers levels bounds n ≡ asked.Passed) × (p ≡ count (improved points₀ corners₀ labels₀ coefficients powers n .mesh))
       × (t ≡ length (improved points₀ corners₀ labels₀ coefficients powers n .mesh .pair .tris)) × (k ≡ improved points₀ corners₀ labels₀ coefficients powers n .flips)
-  answered = let-in (improveNumber points₀ corners₀ labels₀ work₀ coefficients powers levels bounds n) p t k (improved points₀ corners₀ labels₀ coefficients powers n) (r .answer)
+  answered = let-in (improveQuestions points₀ corners₀ labels₀ work₀ coefficients powers levels bounds n) p t k (improved points₀ corners₀ labels₀ coefficients powers n) (r .answer)
 
   passed : Admitted points₀ corners₀ labels₀ work₀
-  unfolding improveNumber
-  passed = number-admitted points₀ corners₀ labels₀ work₀ (first-zero (surfaceNumber points₀ corners₀ labels₀ work₀) _ (answered .0))
+  unfolding improveQuestions
+  passed = passed-admitted points₀ corners₀ labels₀ work₀ (first-passed (surfaceQuestions points₀ corners₀ labels₀ work₀) _ (answered .0))
 
   fine : Fine (length points₀ / 3) (length labels₀) (meshOf points₀ corners₀ labels₀)
   fine = fine-first (improvable-of passed)

@@ -2,6 +2,8 @@
 use closing::clear;
 use collapsing::note_collapses;
 use flips::flip_sides;
+use questions::Asked;
+use questions::Refusal;
 use renumber::blank_corners;
 use renumber::blank_labels;
 use renumber::blank_points;
@@ -128,10 +130,10 @@ fn rounds(
     }
 }
 
-// The answer of improving: points left, triangles left and the count of flips, or the number of the question that was answered by "no".
+// The answer of improving: points left, triangles left and the count of flips, or why the call is refused.
 pub enum Outcome {
     Improved(usize, usize, u32),
-    Refused(u32),
+    Refused(Refusal),
 }
 
 // Improves a closed surface by so many rounds.
@@ -148,15 +150,14 @@ pub fn improve(
 ) -> Outcome
     ensures { λ r. ⌜ Improving (now (points .entry)) (now (corners .entry)) (now (labels .entry)) (now (work .entry)) (now (coefficients .entry)) (now (powers .entry)) (now (levels .entry)) (now (bounds .entry)) count (now (points .exit)) (now (corners .exit)) (now (labels .exit)) (now (work .exit)) r ⌝ }
 {
-    let number = questions::admitted(points, corners, labels, work);
-    if number != 0 {
-        return Outcome::Refused(number);
+    if let Asked::Refused(why) = questions::admitted(points, corners, labels, work) {
+        return Outcome::Refused(why);
     }
     if !field::sheet_ok(coefficients, powers, levels, bounds) {
-        return Outcome::Refused(13);
+        return Outcome::Refused(Refusal::Question(13));
     }
     if 1000 < count {
-        return Outcome::Refused(14);
+        return Outcome::Refused(Refusal::Question(14));
     }
     let need = corners.len() / 3 * 32 + points.len() / 3 * 16;
     let left = rounds(

@@ -8,6 +8,16 @@ use Rattle.editing.proofs.edit.Tie as tie
 admitted-requires : tie.Need-admitted-requires
 admitted-requires c κs = search needs
 
+abbrev start : tie.After-admitted → tie.Start
+start a = a .before .before .before .before .before .before .before .before .before .before .before
+
+-- where the questions about the surface are passed
+abbrev asked : tie.After-enum-told → tie.After-admitted
+asked t = t .before .before .before .before
+
+enum-known-why : tie.Need-enum-known-why
+enum-known-why c = search needs
+
 same-length : tie.Need-same-length
 same-length c = search needs
 
@@ -19,9 +29,13 @@ same-length-3 c = search needs
 
 returns : tie.Need-returns
 returns c =
-    let a = c .before .before .before in
-    let s = a .before .before .before .before .before .before .before .before .before .before .before in
-    refused-surface (now (s .args .points)) (now (s .args .corners)) (now (s .args .labels)) (now (s .args .work)) (now (s .args .entries)) (now (s .args .verdicts)) (now (s .args .journal)) (a .admitted .ensures) (c .if1 .taken)
+    let y = c .before in
+    let a = y .before .before .before .before in
+    let s = start a in
+    refused-surface (now (s .args .points)) (now (s .args .corners)) (now (s .args .labels)) (now (s .args .work)) (now (s .args .entries)) (now (s .args .verdicts)) (now (s .args .journal)) (a .admitted .ensures) (y .why .given .1)
+
+enum-told : tie.Need-enum-told
+enum-told c = search needs
 
 same-length-4 : tie.Need-same-length-4
 same-length-4 c = search needs
@@ -34,9 +48,10 @@ same-length-6 c = search needs
 
 returns-2 : tie.Need-returns-2
 returns-2 c =
-    let a = c .before .before .before .before in
-    let s = a .before .before .before .before .before .before .before .before .before .before .before in
-    no-threes (now (s .args .points)) (now (s .args .corners)) (now (s .args .labels)) (now (s .args .work)) (now (s .args .entries)) (now (s .args .verdicts)) (now (s .args .journal)) (a .admitted .ensures) (c .before .if1 .left) (c .if2 .taken)
+    let t = c .before in
+    let a = asked t in
+    let s = start a in
+    no-threes (now (s .args .points)) (now (s .args .corners)) (now (s .args .labels)) (now (s .args .work)) (now (s .args .entries)) (now (s .args .verdicts)) (now (s .args .journal)) (a .admitted .ensures) (t .enum-told .given .1) (c .if1 .taken)
 
 same-length-7 : tie.Need-same-length-7
 same-length-7 c = search needs
@@ -49,9 +64,10 @@ same-length-9 c = search needs
 
 returns-3 : tie.Need-returns-3
 returns-3 c =
-    let a = c .before .before .before .before .before in
-    let s = a .before .before .before .before .before .before .before .before .before .before .before in
-    no-word-each (now (s .args .points)) (now (s .args .corners)) (now (s .args .labels)) (now (s .args .work)) (now (s .args .entries)) (now (s .args .verdicts)) (now (s .args .journal)) (a .admitted .ensures) (c .before .before .if1 .left) (c .before .if2 .left) (c .if3 .taken)
+    let t = c .before .before in
+    let a = asked t in
+    let s = start a in
+    no-word-each (now (s .args .points)) (now (s .args .corners)) (now (s .args .labels)) (now (s .args .work)) (now (s .args .entries)) (now (s .args .verdicts)) (now (s .args .journal)) (a .admitted .ensures) (t .enum-told .given .1) (c .before .if1 .left) (c .if2 .taken)
 
 clear-requires : tie.Need-clear-requires
 clear-requires c κs = search needs
@@ -60,9 +76,10 @@ run-requires : tie.Need-run-requires
 run-requires c κs =
     let j = c .before .before .before .before .before .before .before in
     let e = j .before .before in
-    let a = e .before .before .before .before .before in
-    let s = a .before .before .before .before .before .before .before .before .before .before .before in
-    starting (now (s .args .points)) (now (s .args .corners)) (now (s .args .labels)) (now (s .args .work)) (now (s .args .entries)) (now (s .args .verdicts)) (now (s .args .journal)) (a .admitted .ensures) (e .before .before .if1 .left) (e .before .if2 .left) (e .if3 .left) (a .admitted .kept .1 .1 .1 .0) (j .clear .kept .0) (j .clear .ensures)
+    let t = e .before .before in
+    let a = asked t in
+    let s = start a in
+    starting (now (s .args .points)) (now (s .args .corners)) (now (s .args .labels)) (now (s .args .work)) (now (s .args .entries)) (now (s .args .verdicts)) (now (s .args .journal)) (a .admitted .ensures) (t .enum-told .given .1) (e .before .if1 .left) (e .if2 .left) (a .admitted .kept .1 .1 .1 .0) (j .clear .kept .0) (j .clear .ensures)
 
 mul-clear : tie.Need-mul-clear
 mul-clear c = search needs
@@ -98,9 +115,10 @@ returns-4 c =
     let k = r .run .kept in
     let j = r .before .before .before .before .before .before .before .before in
     let e = j .before .before in
-    let a = e .before .before .before .before .before in
-    let s = a .before .before .before .before .before .before .before .before .before .before .before in
-    edited (now (s .args .points)) (now (s .args .corners)) (now (s .args .labels)) (now (s .args .work)) (now (s .args .entries)) (now (s .args .verdicts)) (now (s .args .journal)) (a .admitted .ensures) (e .before .before .if1 .left) (e .before .if2 .left) (e .if3 .left) (a .admitted .kept .1 .1 .1 .0) (j .clear .kept .0) (j .clear .ensures)
+    let t = e .before .before in
+    let a = asked t in
+    let s = start a in
+    edited (now (s .args .points)) (now (s .args .corners)) (now (s .args .labels)) (now (s .args .work)) (now (s .args .entries)) (now (s .args .verdicts)) (now (s .args .journal)) (a .admitted .ensures) (t .enum-told .given .1) (e .before .if1 .left) (e .if2 .left) (a .admitted .kept .1 .1 .1 .0) (j .clear .kept .0) (j .clear .ensures)
     (r .run .ensures) (k .0) (k .1 .0) (k .1 .1 .1 .1 .1 .1 .0) (w .clear2 .ensures)
 
 pub edit-spec : {M : Type 1} → statement M
@@ -108,10 +126,12 @@ edit-spec =
     tie.close
     (tie.spec
     admitted-requires
+    enum-known-why
     same-length
     same-length-2
     same-length-3
     returns
+    enum-told
     same-length-4
     same-length-5
     same-length-6

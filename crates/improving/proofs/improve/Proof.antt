@@ -12,6 +12,16 @@ use Rattle.improving.proofs.improve.Tie as tie
 admitted-requires : tie.Need-admitted-requires
 admitted-requires c κs = search needs
 
+abbrev start : tie.After-admitted → tie.Start
+start a = a .before .before .before .before .before .before .before .before .before .before .before
+
+-- where the questions about the surface are passed
+abbrev asked : tie.After-enum-told → tie.After-admitted
+asked t = t .before .before .before .before
+
+enum-known-why : tie.Need-enum-known-why
+enum-known-why c = search needs
+
 same-length : tie.Need-same-length
 same-length c = search needs
 
@@ -26,9 +36,13 @@ same-length-4 c = search needs
 
 returns : tie.Need-returns
 returns c =
-    let a = c .before .before .before in
-    let s = a .before .before .before .before .before .before .before .before .before .before .before in
-    refused-surface (now (s .args .points)) (now (s .args .corners)) (now (s .args .labels)) (now (s .args .work)) (now (s .args .coefficients)) (now (s .args .powers)) (now (s .args .levels)) (now (s .args .bounds)) (s .args .count) (a .admitted .ensures) (c .if1 .taken)
+    let y = c .before in
+    let a = y .before .before .before .before in
+    let s = start a in
+    refused-surface (now (s .args .points)) (now (s .args .corners)) (now (s .args .labels)) (now (s .args .work)) (now (s .args .coefficients)) (now (s .args .powers)) (now (s .args .levels)) (now (s .args .bounds)) (s .args .count) (a .admitted .ensures) (y .why .given .1)
+
+enum-told : tie.Need-enum-told
+enum-told c = search needs
 
 sheet-ok-requires : tie.Need-sheet-ok-requires
 sheet-ok-requires c κs = search needs
@@ -48,9 +62,9 @@ same-length-8 c = search needs
 returns-2 : tie.Need-returns-2
 returns-2 c =
     let e = c .before in
-    let a = e .before .before .before .before in
-    let s = a .before .before .before .before .before .before .before .before .before .before .before in
-    no-sheet (now (s .args .points)) (now (s .args .corners)) (now (s .args .labels)) (now (s .args .work)) (now (s .args .coefficients)) (now (s .args .powers)) (now (s .args .levels)) (now (s .args .bounds)) (s .args .count) (a .admitted .ensures) (e .before .if1 .left) (sym (e .sheet-ok .ensures) ∙ not-true _ (c .if2 .taken))
+    let a = asked (e .before) in
+    let s = start a in
+    no-sheet (now (s .args .points)) (now (s .args .corners)) (now (s .args .labels)) (now (s .args .work)) (now (s .args .coefficients)) (now (s .args .powers)) (now (s .args .levels)) (now (s .args .bounds)) (s .args .count) (a .admitted .ensures) (e .before .enum-told .given .1) (sym (e .sheet-ok .ensures) ∙ not-true _ (c .if1 .taken))
 
 same-length-9 : tie.Need-same-length-9
 same-length-9 c = search needs
@@ -67,17 +81,17 @@ same-length-12 c = search needs
 returns-3 : tie.Need-returns-3
 returns-3 c =
     let e = c .before .before in
-    let a = e .before .before .before .before in
-    let s = a .before .before .before .before .before .before .before .before .before .before .before in
-    too-many (now (s .args .points)) (now (s .args .corners)) (now (s .args .labels)) (now (s .args .work)) (now (s .args .coefficients)) (now (s .args .powers)) (now (s .args .levels)) (now (s .args .bounds)) (s .args .count) (a .admitted .ensures) (e .before .if1 .left) (sym (e .sheet-ok .ensures) ∙ not-false _ (c .before .if2 .left)) (c .if3 .taken)
+    let a = asked (e .before) in
+    let s = start a in
+    too-many (now (s .args .points)) (now (s .args .corners)) (now (s .args .labels)) (now (s .args .work)) (now (s .args .coefficients)) (now (s .args .powers)) (now (s .args .levels)) (now (s .args .bounds)) (s .args .count) (a .admitted .ensures) (e .before .enum-told .given .1) (sym (e .sheet-ok .ensures) ∙ not-false _ (c .before .if1 .left)) (c .if2 .taken)
 
 mul-need : tie.Need-mul-need
 mul-need c =
     let d = c in
     let e = d .before .before in
-    let a = e .before .before .before .before in
-    let s = a .before .before .before .before .before .before .before .before .before .before .before in
-    let r = room (a .admitted .ensures) (e .before .if1 .left) (a .admitted .kept .1 .1 .1 .0) in
+    let a = asked (e .before) in
+    let s = start a in
+    let r = room (a .admitted .ensures) (e .before .enum-told .given .1) (a .admitted .kept .1 .1 .1 .0) in
     omega (arith, r, a .admitted .kept .1 .1 .1 .0, s .good)
 
 mul-need-2 : tie.Need-mul-need-2
@@ -87,39 +101,39 @@ add-need : tie.Need-add-need
 add-need c =
     let d = c in
     let e = d .before .before in
-    let a = e .before .before .before .before in
-    let s = a .before .before .before .before .before .before .before .before .before .before .before in
-    let r = room (a .admitted .ensures) (e .before .if1 .left) (a .admitted .kept .1 .1 .1 .0) in
+    let a = asked (e .before) in
+    let s = start a in
+    let r = room (a .admitted .ensures) (e .before .enum-told .given .1) (a .admitted .kept .1 .1 .1 .0) in
     omega (arith, r, a .admitted .kept .1 .1 .1 .0, s .good)
 
 slice-relend-prefix-rounds : tie.Need-slice-relend-prefix-rounds
 slice-relend-prefix-rounds c =
     let d = c .before .before .before in
     let e = d .before .before in
-    let a = e .before .before .before .before in
-    room (a .admitted .ensures) (e .before .if1 .left) (a .admitted .kept .1 .1 .1 .0)
+    let a = asked (e .before) in
+    room (a .admitted .ensures) (e .before .enum-told .given .1) (a .admitted .kept .1 .1 .1 .0)
 
 slice-aggregate-rounds : tie.Need-slice-aggregate-rounds
 slice-aggregate-rounds c =
     let d = c .before .before .before .before in
     let e = d .before .before in
-    let a = e .before .before .before .before in
-    sym (length-take-le _ _ (room (a .admitted .ensures) (e .before .if1 .left) (a .admitted .kept .1 .1 .1 .0)))
+    let a = asked (e .before) in
+    sym (length-take-le _ _ (room (a .admitted .ensures) (e .before .enum-told .given .1) (a .admitted .kept .1 .1 .1 .0)))
 
 rounds-requires : tie.Need-rounds-requires
 rounds-requires c κs =
     let d = c .before .before .before .before in
     let e = d .before .before in
-    let a = e .before .before .before .before in
-    (handed (a .admitted .ensures) (e .before .if1 .left) (a .admitted .kept .1 .1 .1 .0), d .if3 .left)
+    let a = asked (e .before) in
+    (handed (a .admitted .ensures) (e .before .enum-told .given .1) (a .admitted .kept .1 .1 .1 .0), d .if2 .left)
 
 clear-requires : tie.Need-clear-requires
 clear-requires c κs =
     let r = c .before .before .before .before .before .before .before .before .before in
     let d = r .before .before .before .before .before in
     let e = d .before .before in
-    let a = e .before .before .before .before in
-    words-stay (a .admitted .ensures) (e .before .if1 .left) (a .admitted .kept .1 .1 .1 .0) (r .rounds .last .1 .1 .1 .1 .1 .1 .0) (r .rounds .kept .1 .1 .1 .1 .1 .1 .0)
+    let a = asked (e .before) in
+    words-stay (a .admitted .ensures) (e .before .enum-told .given .1) (a .admitted .kept .1 .1 .1 .0) (r .rounds .last .1 .1 .1 .1 .1 .1 .0) (r .rounds .kept .1 .1 .1 .1 .1 .1 .0)
 
 same-length-13 : tie.Need-same-length-13
 same-length-13 c = search needs
@@ -139,20 +153,22 @@ returns-4 c =
     let r = k .before .before .before .before .before .before .before .before .before .before in
     let d = r .before .before .before .before .before in
     let e = d .before .before in
-    let a = e .before .before .before .before in
-    let s = a .before .before .before .before .before .before .before .before .before .before .before in
-    improves (now (s .args .points)) (now (s .args .corners)) (now (s .args .labels)) (now (s .args .work)) (now (s .args .coefficients)) (now (s .args .powers)) (now (s .args .levels)) (now (s .args .bounds)) (s .args .count) (a .admitted .ensures) (e .before .if1 .left) (sym (e .sheet-ok .ensures) ∙ not-false _ (d .before .if2 .left)) (d .if3 .left) (a .admitted .kept .1 .1 .1 .0) (r .rounds .ensures) (r .rounds .last .1 .1 .1 .1 .1 .1 .0) (r .rounds .kept .1 .1 .1 .1 .1 .1 .0) (k .clear .ensures)
+    let a = asked (e .before) in
+    let s = start a in
+    improves (now (s .args .points)) (now (s .args .corners)) (now (s .args .labels)) (now (s .args .work)) (now (s .args .coefficients)) (now (s .args .powers)) (now (s .args .levels)) (now (s .args .bounds)) (s .args .count) (a .admitted .ensures) (e .before .enum-told .given .1) (sym (e .sheet-ok .ensures) ∙ not-false _ (d .before .if1 .left)) (d .if2 .left) (a .admitted .kept .1 .1 .1 .0) (r .rounds .ensures) (r .rounds .last .1 .1 .1 .1 .1 .1 .0) (r .rounds .kept .1 .1 .1 .1 .1 .1 .0) (k .clear .ensures)
 
 pub improve-spec : {M : Type 1} → statement M
 improve-spec =
     tie.close
     (tie.spec
     admitted-requires
+    enum-known-why
     same-length
     same-length-2
     same-length-3
     same-length-4
     returns
+    enum-told
     sheet-ok-requires
     same-length-5
     same-length-6
