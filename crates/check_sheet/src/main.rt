@@ -2,6 +2,7 @@
 use checking::Verdict;
 use libc::STDIN_FILENO;
 use libc::STDOUT_FILENO;
+use questions::Refusal;
 
 // The bits of a number, and 0 for a NaN, which no verdict holds.
 fn bits(x: f64) -> u64 {
@@ -29,7 +30,7 @@ fn verdict(text: &[u8]) -> Verdict {
     let mut work = [0u32; 10240];
     let sheet::Answer::Sheet(n, m) = sheet::read(text, &mut points, &mut corners, &mut labels)
     else {
-        return Verdict::Refused(16);
+        return Verdict::Refused(Refusal::Question(16));
     };
     checking::validate(&points[..n * 3], &corners[..m * 3], &labels[..m], &mut work)
 }
@@ -40,6 +41,6 @@ fn main() {
     let n = io::read_full(STDIN_FILENO, &mut text);
     match verdict(&text[..n]) {
         Verdict::Accepted(quality, volume) => print(0, quality, volume),
-        Verdict::Refused(number) => print(number, 0.0, 0.0),
+        Verdict::Refused(why) => print(why.number(), 0.0, 0.0),
     }
 }

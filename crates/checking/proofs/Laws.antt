@@ -2,21 +2,26 @@
 use Prim.Native.Nat.{ℕ, _/_, _%_, _<_}
 use native.Mathlib.Omega.{arith}
 use mathlib.Core.Path.{_≡_, refl, sym, ap, _∙_, subst}
-use mathlib.Core.Bool.{Bool, true, false, cond}
+use mathlib.Core.Bool.{Bool, true, false}
 use mathlib.Core.List.{List}
-use lib.Dec.{T, eqb}
+use lib.Dec.{T}
 use lib.ListN.{length, getD}
 use lib.Ieee.{Float, lt, le}
-use borrow.Author.Tests.{eqb-true, eq-eqb}
 use Rattle.surface.specs.Triangle.{Tri, tri, triangles}
 use Rattle.surface.specs.Closed.{around, Ring, InUse, Differ, Paired}
-use Rattle.questions.specs.Rules.{pairedRinged?}
-use Rattle.questions.specs.Questions.{lentNumber}
-use Rattle.questions.proofs.Rules.{pairedRinged?-iff}
-use Rattle.questions.proofs.Counted.{Counted, asked-zero}
+use Rattle.surface.specs.Finding.{finding}
+use Rattle.surface.proofs.Findings.{finding-closed}
+use Rattle.questions.specs.Questions.{lentQuestions}
+use Rattle.questions.specs.Refusal.{onFinding}
+use Rattle.questions.specs.declared.Refusal.{Refusal}
+use Rattle.questions.specs.declared.Refusal.the-variants.{Question}
+use Rattle.questions.specs.declared.Asked.{Asked}
+use Rattle.questions.specs.declared.Asked.the-variants as asked
+use Rattle.questions.proofs.Counted.{lent-passed}
+use Rattle.questions.proofs.Chain.{found-passed}
 use Rattle.quality.specs.Quality.{number, degenerate}
 use Rattle.quality.proofs.Lesser.{above-zero, kept-positive}
-use Rattle.checking.specs.Validate.{qualityAt, measured, asWhole, examined, validated}
+use Rattle.checking.specs.Validate.{qualityAt, measured, verdictAfter, asWhole, examined, validated}
 use Rattle.checking.specs.declared.Verdict.{Verdict}
 use Rattle.checking.specs.declared.Verdict.the-variants.{Accepted, Refused}
 use Rattle.checking.proofs.Sound.{Measures, measures, corners-below}
@@ -40,40 +45,44 @@ pub record Sound (points : List Float) (corners : List ℕ) (quality volume : Fl
   -- 0 < volume
   pub encloses : T (lt (number 0) volume)
 
+-- a refusal is no acceptance
+never : {A : Type 0} {why : Refusal} {q v : Float} → Refused why ≡ Accepted q v → A
+never e = let z : _≡_ {A = ℕ} 0 1 = cc in absurd (omega arith)
+
 -- the last two questions are answered by "yes"
 record Yes (ts : List Tri) (x : Verdict) (q v : Float) : Type 0 where
   same : x ≡ Accepted q v
-  round : pairedRinged? ts ≡ true
+  closed : onFinding (finding ts) ≡ asked.Passed
   kept : degenerate v ≡ false
 
 whole-yes : (ts : List Tri) (x : Verdict) (q v : Float) → asWhole ts x ≡ Accepted q v → Yes ts x q v
-whole-yes ts (Refused n) q v e = let z : _≡_ {A = ℕ} 0 1 = cc in absurd (omega arith)
-whole-yes ts (Accepted q' v') q v e = go (pairedRinged? ts) refl (degenerate v') refl
+whole-yes ts (Refused why) q v e = never e
+whole-yes ts (Accepted q' v') q v e = go (onFinding (finding ts)) refl (degenerate v') refl
   where
-    go : (r : Bool) → pairedRinged? ts ≡ r → (d : Bool) → degenerate v' ≡ d → Yes ts (Accepted q' v') q v
-    go false p d g = let u : Refused 7 ≡ Accepted q v = sym (by-whole ts q' v' p g) ∙ e in let z : _≡_ {A = ℕ} 0 1 = cc in absurd (omega arith)
-    go true p true g = let u : Refused 8 ≡ Accepted q v = sym (by-whole ts q' v' p g) ∙ e in let z : _≡_ {A = ℕ} 0 1 = cc in absurd (omega arith)
-    go true p false g =
+    go : (a : Asked) → onFinding (finding ts) ≡ a → (d : Bool) → degenerate v' ≡ d → Yes ts (Accepted q' v') q v
+    go (asked.Refused why) p d g = never (sym (by-whole ts q' v' p g) ∙ e)
+    go asked.Passed p true g = never (sym (by-whole ts q' v' p g) ∙ e)
+    go asked.Passed p false g =
         let u : Accepted q' v' ≡ Accepted q v = sym (by-whole ts q' v' p g) ∙ e in
         let same : v' ≡ v = cc in
-        record { same = u; round = p; kept = ap degenerate (sym same) ∙ g }
+        record { same = u; closed = p; kept = ap degenerate (sym same) ∙ g }
 
 module _ (ps : List Float) (cs ls work : List ℕ) (q v : Float) (e : validated ps cs ls work ≡ Accepted q v) where
   -- questions 1 to 4
-  pub accepted-lent : lentNumber ps cs ls work ≡ 0
-  accepted-lent = go (eqb (lentNumber ps cs ls work) 0) refl
+  pub accepted-lent : lentQuestions ps cs ls work ≡ asked.Passed
+  accepted-lent = go (lentQuestions ps cs ls work) refl
     where
-      go : (b : Bool) → eqb (lentNumber ps cs ls work) 0 ≡ b → lentNumber ps cs ls work ≡ 0
-      go true p = eqb-true _ 0 p
-      go false p = let u : Refused (lentNumber ps cs ls work) ≡ Accepted q v = sym (by-first ps cs ls work p) ∙ e in let z : _≡_ {A = ℕ} 0 1 = cc in absurd (omega arith)
+      go : (a : Asked) → lentQuestions ps cs ls work ≡ a → lentQuestions ps cs ls work ≡ asked.Passed
+      go asked.Passed p = p
+      go (asked.Refused why) p = never (sym (by-first ps cs ls work p) ∙ e)
 
   -- and with at least one triangle the others
   pub sound : 0 < length cs → Sound ps cs q v
   sound some =
-      let c = asked-zero ps cs ls work accepted-lent .0 in
-      let y = whole-yes (triangles cs) (measured ps cs) q v (some-triangles ps cs (λ z. omega arith) ∙ sym (by-first ps cs ls work (eq-eqb _ 0 accepted-lent)) ∙ e) in
+      let c = lent-passed ps cs ls work accepted-lent .0 in
+      let y = whole-yes (triangles cs) (measured ps cs) q v (some-triangles ps cs (λ z. omega arith) ∙ sym (by-first ps cs ls work accepted-lent) ∙ e) in
       let m = measures ps cs q v (y .same) in
-      let r = (pairedRinged?-iff (triangles cs)) .0 (y .round) in
+      let r = (finding-closed (triangles cs)) .0 (found-passed _ (y .closed)) in
       record {
         differ = λ i l. m .every i l .corners;
         paired = r .paired;

@@ -14,9 +14,13 @@ use Rattle.float.specs.Order.{lesser}
 use Rattle.surface.specs.Triangle.{Tri, tri, triangles}
 use Rattle.surface.specs.Closed.{Differ}
 use Rattle.surface.proofs.Flat.{length-triangles, place-triangles}
+use Rattle.questions.specs.Refusal.{refusalNumber}
+use Rattle.questions.specs.declared.Refusal.{Refusal}
+use Rattle.questions.specs.declared.Refusal.the-variants.{Question}
 use Rattle.quality.specs.Quality.{number, degenerate}
 use Rattle.quality.proofs.Distinct.{apart}
 use Rattle.quality.proofs.Lesser.{kept-positive, one-positive, Lesser, itself, lesser-positive}
+use Rattle.checking.specs.Verdict.{numberOf}
 use Rattle.checking.specs.Validate.{placed, outside, qualityAt, next, measured}
 use Rattle.checking.specs.declared.Verdict.{Verdict}
 use Rattle.checking.specs.declared.Verdict.the-variants.{Accepted, Refused}
@@ -32,7 +36,7 @@ record Fine (ps : List Float) (m v : Float) (t : Tri) : Type 0 where
 record Ends (ps : List Float) (m v : Float) (t : Tri) : Type 0 where
   why : ℕ
   late : 4 < why
-  goes : next ps (Accepted m v) t ≡ Refused why
+  goes : next ps (Accepted m v) t ≡ Refused (Question why)
 
 cases : (ps : List Float) (m v : Float) (t : Tri) → Fine ps m v t ⊎ Ends ps m v t
 cases ps m v t = go (outside (length ps / 3) t) refl (degenerate (qualityAt ps t)) refl
@@ -56,7 +60,7 @@ pub record Taken (ps : List Float) (least : Float) (t : Tri) : Type 0 where
   pub corners : Differ t
   pub bounds : T (le least (qualityAt ps t))
 
-never : (k : ℕ) (m v : Float) → Refused k ≡ Accepted m v → ⊥
+never : (k : Refusal) (m v : Float) → Refused k ≡ Accepted m v → ⊥
 never k m v e = let z : _≡_ {A = ℕ} 0 1 = cc in omega arith
 
 first-or : (ps : List Float) (least : Float) (t : Tri) (ts : List Tri) → Taken ps least t → ((i : ℕ) → i < length ts → Taken ps least (getD ts i (tri 0 0 0))) → (i : ℕ) → i < length (t ∷ ts) → Taken ps least (getD (t ∷ ts) i (tri 0 0 0))
@@ -85,23 +89,23 @@ all-taken ps m v (t ∷ ts) m' v' M e = elim (cases ps m v t) [
             })
             (r .2),
       )
-  | inr g ↦ absurd (never (g .why) m' v' (sym (ap (λ (s : Verdict). foldl (next ps) s ts) (g .goes) ∙ refused ps (g .why) ts) ∙ e))
+  | inr g ↦ absurd (never (Question (g .why)) m' v' (sym (ap (λ (s : Verdict). foldl (next ps) s ts) (g .goes) ∙ refused ps (Question (g .why)) ts) ∙ e))
 ]
 
 -- a refusal by a triangle is 5 or 6
-pub late : (ps : List Float) (m v : Float) (ts : List Tri) (k : ℕ) → foldl (next ps) (Accepted m v) ts ≡ Refused k → 4 < k
-late ps m v [] k e = absurd (never k m v (sym e))
-late ps m v (t ∷ ts) k e = elim (cases ps m v t) [
-  | inl g ↦ late ps _ _ ts k (sym (ap (λ (s : Verdict). foldl (next ps) s ts) (g .goes)) ∙ e)
+pub late : (ps : List Float) (m v : Float) (ts : List Tri) (why : Refusal) → foldl (next ps) (Accepted m v) ts ≡ Refused why → 4 < refusalNumber why
+late ps m v [] why e = absurd (never why m v (sym e))
+late ps m v (t ∷ ts) why e = elim (cases ps m v t) [
+  | inl g ↦ late ps _ _ ts why (sym (ap (λ (s : Verdict). foldl (next ps) s ts) (g .goes)) ∙ e)
   | inr g ↦
-      let q : Refused (g .why) ≡ Refused k = sym (ap (λ (s : Verdict). foldl (next ps) s ts) (g .goes) ∙ refused ps (g .why) ts) ∙ e in
-      let same : g .why ≡ k = cc in
+      let q : Refused (Question (g .why)) ≡ Refused why = sym (ap (λ (s : Verdict). foldl (next ps) s ts) (g .goes) ∙ refused ps (Question (g .why)) ts) ∙ e in
+      let same : g .why ≡ refusalNumber why = ap numberOf q in
       omega (arith, g .late)
 ]
 
-pub measured-late : (ps : List Float) (cs : List ℕ) (k : ℕ) → measured ps cs ≡ Refused k → 4 < k
+pub measured-late : (ps : List Float) (cs : List ℕ) (why : Refusal) → measured ps cs ≡ Refused why → 4 < refusalNumber why
 unfolding measured
-measured-late ps cs k e = late ps (number 1) (number 0) (triangles cs) k e
+measured-late ps cs why e = late ps (number 1) (number 0) (triangles cs) why e
 
 -- ---- the whole list
 

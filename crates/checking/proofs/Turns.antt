@@ -13,6 +13,8 @@ use Rattle.float.specs.Order.{lesser}
 use Rattle.float.specs.Point.{plus}
 use Rattle.surface.specs.Triangle.{Tri, tri, triangles}
 use Rattle.surface.proofs.Bools.{or-none}
+use Rattle.questions.specs.declared.Refusal.{Refusal}
+use Rattle.questions.specs.declared.Refusal.the-variants.{Question}
 use Rattle.quality.specs.Quality.{number, degenerate, leastWith}
 use Rattle.quality.specs.declared.Rated.{Rated}
 use Rattle.quality.specs.declared.Rated.the-variants.{Kept, Degenerate}
@@ -52,11 +54,11 @@ module _ (ps : List Float) (m v : Float) (t : Tri) where
   abbrev pub taken : Verdict
   taken = Accepted (lesser m (qualityAt ps t)) (plus v (wedgeAt ps t))
 
-  pub by-tests : {o d : Bool} → outside (length ps / 3) t ≡ o → degenerate (qualityAt ps t) ≡ d → next ps (Accepted m v) t ≡ cond o (Refused 5) (cond d (Refused 6) taken)
+  pub by-tests : {o d : Bool} → outside (length ps / 3) t ≡ o → degenerate (qualityAt ps t) ≡ d → next ps (Accepted m v) t ≡ cond o (Refused (Question 5)) (cond d (Refused (Question 6)) taken)
   unfolding next
-  by-tests p q = λ i. cond (p i) (Refused 5) (cond (q i) (Refused 6) taken)
+  by-tests p q = λ i. cond (p i) (Refused (Question 5)) (cond (q i) (Refused (Question 6)) taken)
 
-  pub step-out : outside (length ps / 3) t ≡ true → Refused 5 ≡ next ps (Accepted m v) t
+  pub step-out : outside (length ps / 3) t ≡ true → Refused (Question 5) ≡ next ps (Accepted m v) t
   step-out e = sym (by-tests e refl)
 
   module _ (inside : outside (length ps / 3) t ≡ false) {r : Rated} (e : r ≡ leastWith m (qualityAt ps t)) where
@@ -74,10 +76,10 @@ module _ (ps : List Float) (m v : Float) (t : Tri) where
             let same : q ≡ lesser m (qualityAt ps t) = cc in
             ap₂ (λ (x y : Float). Accepted x (plus v y)) same s ∙ sym (by-tests inside h)
 
-    pub step-flat : r ≡ Degenerate → Refused 6 ≡ next ps (Accepted m v) t
+    pub step-flat : r ≡ Degenerate → Refused (Question 6) ≡ next ps (Accepted m v) t
     step-flat k = go (degenerate (qualityAt ps t)) refl
       where
-        go : (d : Bool) → degenerate (qualityAt ps t) ≡ d → Refused 6 ≡ next ps (Accepted m v) t
+        go : (d : Bool) → degenerate (qualityAt ps t) ≡ d → Refused (Question 6) ≡ next ps (Accepted m v) t
         go true h = sym (by-tests inside h)
         go false h = let u : Degenerate ≡ Kept (lesser m (qualityAt ps t)) = sym k ∙ by-least h in let z : _≡_ {A = ℕ} 0 1 = cc in absurd (omega arith)
 
@@ -114,7 +116,7 @@ triangles-end (x ∷ y ∷ z ∷ l) h = absurd (omega arith)
 pub fold-end : (ps : List Float) (cs : List ℕ) (i : ℕ) (s : Verdict) → length cs - i ≤ 2 → foldl (next ps) s (triangles (drop i cs)) ≡ s
 fold-end ps cs i s h = ap (foldl (next ps) s) (triangles-end (drop i cs) (simp length-drop h))
 
-pub refused : (ps : List Float) (k : ℕ) (ts : List Tri) → foldl (next ps) (Refused k) ts ≡ Refused k
+pub refused : (ps : List Float) (why : Refusal) (ts : List Tri) → foldl (next ps) (Refused why) ts ≡ Refused why
 unfolding next
-refused ps k [] = refl
-refused ps k (t ∷ ts) = refused ps k ts
+refused ps why [] = refl
+refused ps why (t ∷ ts) = refused ps why ts

@@ -1,5 +1,7 @@
 // `validate`: whether a surface is closed and encloses a volume, its smallest quality and that volume.
 use halfedges::wide;
+use questions::Asked;
+use questions::Refusal;
 ghost use mathlib.Core.Path.{_≡_};
 ghost use mathlib.Core.List.{[], _∷_};
 ghost use Prim.Native.Nat.{_+_, _/_, _<_};
@@ -10,10 +12,10 @@ ghost use Rattle.closing.specs.Closing.{Lent};
 ghost use Rattle.checking.specs.Validate.{pointAt, outside, next, measured, Validated};
 ghost use Rattle.checking.specs.Stages.{triOf, Sized, Examined, WholeAsked};
 
-// Accepted with the smallest quality and the volume, or refused with the number of a question.
+// Accepted with the smallest quality and the volume, or refused.
 pub enum Verdict {
     Accepted(f64, f64),
-    Refused(u32),
+    Refused(Refusal),
 }
 
 // The point of a number.
@@ -85,14 +87,14 @@ fn step(
     ensures { λ r. ⌜ r ≡ next (now (points .entry)) (Verdict.Accepted minimum volume) (triOf t) ⌝ }
 {
     if beyond(points.len() / 3, t) {
-        return Verdict::Refused(5);
+        return Verdict::Refused(Refusal::Question(5));
     }
     let a = place(points, wide(t[0]), origin);
     let b = place(points, wide(t[1]), origin);
     let c = place(points, wide(t[2]), origin);
     match quality::least(factor, minimum, a, b, c) {
         quality::Rated::Kept(q) => Verdict::Accepted(q, volume + quality::share(a, b, c)),
-        quality::Rated::Degenerate => Verdict::Refused(6),
+        quality::Rated::Degenerate => Verdict::Refused(Refusal::Question(6)),
     }
 }
 
@@ -126,14 +128,15 @@ fn whole(corners: &[u32], points: usize, quality: f64, volume: f64, work: &mut [
     requires { ⌜ Lent (now corners) points (now work) ⌝ }
     ensures { λ r. ⌜ WholeAsked (now (corners .entry)) points quality volume (now (work .entry)) (now (work .exit)) r ⌝ }
 {
-    if !closing::closed_oriented_manifold(corners, points, work) {
-        return Verdict::Refused(7);
+    let found = closing::finding(corners, points, work);
+    if let Asked::Refused(why) = questions::on_finding(found) {
+        return Verdict::Refused(why); // not closed
     }
     if !float::is_finite(volume) {
-        return Verdict::Refused(8);
+        return Verdict::Refused(Refusal::Question(8));
     }
     if volume <= 0.0 {
-        return Verdict::Refused(8);
+        return Verdict::Refused(Refusal::Question(8));
     }
     Verdict::Accepted(quality, volume)
 }
@@ -156,7 +159,7 @@ fn examine(points: &[f64], corners: &[u32], work: &mut [u32]) -> Verdict
             work,
         ),
         Verdict::Refused(why) => {
-            closing::clear(work, corners.len() / 3 * 32 + points.len() / 3 * 16);
+            closing::clear(work, corners.len() / 3 * 32 + points.len() / 3 * 16); // by a triangle
             Verdict::Refused(why)
         }
     }
@@ -166,13 +169,12 @@ fn examine(points: &[f64], corners: &[u32], work: &mut [u32]) -> Verdict
 pub fn validate(points: &[f64], corners: &[u32], labels: &[u8], work: &mut [u32]) -> Verdict
     ensures { λ r. ⌜ Validated (now (points .entry)) (now (corners .entry)) (now (labels .entry)) (now (work .entry)) (now (work .exit)) r ⌝ }
 {
-    let asked = questions::lent(points, corners, labels, work);
-    if asked == 0 {
-        return examine(points, corners, work);
+    if let Asked::Refused(why) = questions::lent(points, corners, labels, work) {
+        if why.number() == 4 {
+            closing::clear(work, corners.len() / 3 * 32 + points.len() / 3 * 16);
+            return Verdict::Refused(why);
+        }
+        return Verdict::Refused(why);
     }
-    if asked == 4 {
-        closing::clear(work, corners.len() / 3 * 32 + points.len() / 3 * 16);
-        return Verdict::Refused(4);
-    }
-    Verdict::Refused(asked)
+    examine(points, corners, work)
 }

@@ -279,7 +279,7 @@ fn first_split(corners: &[u32], points: usize, work: &mut [u32]) -> usize
     let mut v: usize = 0;
     while v < points {
         if corner_ringed(corners, points, 1, v, work) {
-            v += 1;
+            v += 1; // one ring
         } else {
             return v;
         }

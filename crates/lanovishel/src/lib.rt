@@ -18,8 +18,8 @@ pub extern "C" fn lanovishel_sqrt(x: f64) -> f64
     float::sqrt(x)
 }
 
-// The verdict on a surface: 0 with its smallest quality and its volume, or the number of the question
-// that it fails.
+// The verdict on a surface: 0 with its smallest quality and its volume, or the number of the refusal, with
+// the place of what is found.
 #[no_mangle]
 pub extern "C" fn lanovishel_check(
     points: &[f64],
@@ -27,23 +27,26 @@ pub extern "C" fn lanovishel_check(
     labels: &[u8],
     work: &mut [u32],
     numbers: &mut [f64; 2],
+    place: &mut [u32; 2],
 ) -> u32
-    ensures { λ r. ⌜ Checked (now (points .entry)) (now (corners .entry)) (now (labels .entry)) (now (work .entry)) (now (work .exit)) (now (numbers .exit)) r ⌝ }
+    ensures { λ r. ⌜ Checked (now (points .entry)) (now (corners .entry)) (now (labels .entry)) (now (work .entry)) (now (work .exit)) (now (numbers .exit)) (now (place .exit)) r ⌝ }
 {
     match checking::validate(points, corners, labels, work) {
         Verdict::Accepted(quality, volume) => {
             *numbers = [quality, volume];
+            *place = [0, 0];
             0
         }
-        Verdict::Refused(number) => {
+        Verdict::Refused(why) => {
             *numbers = [0.0, 0.0];
-            number
+            *place = why.place();
+            why.number()
         }
     }
 }
 
 // An edit run: entries of kind, a, b; 0 with triangles left and edits in force, or the number of the
-// question that the call fails.
+// refusal, with the place of what is found.
 #[no_mangle]
 pub extern "C" fn lanovishel_edit(
     points: &[f64],
@@ -54,23 +57,26 @@ pub extern "C" fn lanovishel_edit(
     verdicts: &mut [u32],
     journal: &mut [u32],
     answer: &mut [u32; 2],
+    place: &mut [u32; 2],
 ) -> u32
-    ensures { λ r. ⌜ EditCall (now (points .entry)) (now (corners .entry)) (now (labels .entry)) (now (work .entry)) (now (entries .entry)) (now (verdicts .entry)) (now (journal .entry)) (now (corners .exit)) (now (labels .exit)) (now (work .exit)) (now (verdicts .exit)) (now (journal .exit)) (now (answer .exit)) r ⌝ }
+    ensures { λ r. ⌜ EditCall (now (points .entry)) (now (corners .entry)) (now (labels .entry)) (now (work .entry)) (now (entries .entry)) (now (verdicts .entry)) (now (journal .entry)) (now (corners .exit)) (now (labels .exit)) (now (work .exit)) (now (verdicts .exit)) (now (journal .exit)) (now (answer .exit)) (now (place .exit)) r ⌝ }
 {
     match editing::edit(points, corners, labels, work, entries, verdicts, journal) {
         Outcome::Edited(triangles, edits) => {
             *answer = [low_word(triangles), low_word(edits)];
+            *place = [0, 0];
             0
         }
-        Outcome::Refused(number) => {
+        Outcome::Refused(why) => {
             *answer = [0, 0];
-            number
+            *place = why.place();
+            why.number()
         }
     }
 }
 
-// Improving by rounds: 0 with points left, triangles left and flips, or the number of the question that
-// the call fails. `bounds` is the lower corner of the box, then the upper.
+// Improving by rounds: 0 with points left, triangles left and flips, or the number of the refusal, with
+// the place of what is found. `bounds` is the lower corner of the box, then the upper.
 #[no_mangle]
 pub extern "C" fn lanovishel_improve(
     points: &mut [f64],
@@ -83,8 +89,9 @@ pub extern "C" fn lanovishel_improve(
     bounds: &[f64; 6],
     rounds: u32,
     answer: &mut [u32; 3],
+    place: &mut [u32; 2],
 ) -> u32
-    ensures { λ r. ⌜ ImproveCall (now (points .entry)) (now (corners .entry)) (now (labels .entry)) (now (work .entry)) (now (coefficients .entry)) (now (powers .entry)) (now (levels .entry)) (now (bounds .entry)) rounds (now (points .exit)) (now (corners .exit)) (now (labels .exit)) (now (work .exit)) (now (answer .exit)) r ⌝ }
+    ensures { λ r. ⌜ ImproveCall (now (points .entry)) (now (corners .entry)) (now (labels .entry)) (now (work .entry)) (now (coefficients .entry)) (now (powers .entry)) (now (levels .entry)) (now (bounds .entry)) rounds (now (points .exit)) (now (corners .exit)) (now (labels .exit)) (now (work .exit)) (now (answer .exit)) (now (place .exit)) r ⌝ }
 {
     match improving::improve(
         points,
@@ -99,11 +106,13 @@ pub extern "C" fn lanovishel_improve(
     ) {
         improving::Outcome::Improved(left, triangles, flips) => {
             *answer = [low_word(left), low_word(triangles), flips];
+            *place = [0, 0];
             0
         }
-        improving::Outcome::Refused(number) => {
+        improving::Outcome::Refused(why) => {
             *answer = [0, 0, 0];
-            number
+            *place = why.place();
+            why.number()
         }
     }
 }

@@ -1,122 +1,24 @@
--- The tests of the rules say what the rules say.
-use Prim.Native.Nat.{ℕ, zero, suc, _≤_, _<_}
+-- The tests of rules (a) and (d) say what the rules say.
+use Prim.Native.Nat.{ℕ, zero, suc, _<_}
 use mathlib.Core.Path.{_≡_, refl, sym, ap, _∙_}
 use mathlib.Core.Logic.{_↔_, _⊎_, inl, inr}
-use mathlib.Core.Bool.{Bool, true, false, _&&_, _||_, not, false≢true}
+use mathlib.Core.Bool.{Bool, true, false, _&&_, _||_, not}
 use mathlib.Core.List.{List, [], _∷_}
 use native.Mathlib.Omega.{arith}
-use native.Mathlib.Decide.{decLt}
 use lib.Dec.{eqb}
-use lib.ListN.{length, getD}
+use lib.ListN.{length}
 use borrow.Author.Tests.{eqb-true, eqb-false, eq-eqb, ne-eqb}
 use Rattle.surface.specs.Triangle.{Tri, tri, names}
-use Rattle.surface.specs.Closed.{sides, Step, around, Ring, InUse, Differ, Paired, SameCorners}
-use Rattle.surface.specs.Check.{leftover, empty, differ?, side?, sides?}
+use Rattle.surface.specs.Closed.{Differ, SameCorners}
+use Rattle.surface.specs.Check.{differ?, every}
 use Rattle.surface.specs.Edit.{place}
 use Rattle.surface.proofs.Bools.{both, join, not-true, true-false, or-cases}
-use Rattle.surface.proofs.Reading.{Reads, r0, r1, r2, Has, here, there, spin, has-side, side-has}
-use Rattle.surface.proofs.Places.{place-has}
-use Rattle.surface.proofs.Around.{nothing-left, joined-ring, ring-joined}
-use Rattle.surface.proofs.Bridge.{in-use}
-use Rattle.surface.proofs.Euler.{use-has}
-use Rattle.surface.specs.Closed.{Manifold}
-use Rattle.surface.specs.Check.{every}
-use Rattle.questions.specs.Rules.{ring?, rings?, pairedRinged?, within?, distinct?}
+use Rattle.questions.specs.Rules.{within?, distinct?}
 use Rattle.questions.proofs.All.{all-at, at-all}
-
-all-has : (f : Tri → Bool) {ts : List Tri} {x y z : ℕ} → every f ts ≡ true → Has x y z ts → (t : Tri) × (f t ≡ true) × Reads t x y z
-unfolding every
-all-has f e (here {t = t} {ts = ts} r) = (t, (both (f t) (every f ts) e) .0, r)
-all-has f e (there {t = t} {ts = ts} h) = all-has f ((both (f t) (every f ts) e) .1) h
-
-no-empty : (l : List Step) → empty l ≡ true → l ≡ []
-no-empty [] e = refl
-no-empty (s ∷ l) e = absurd (false≢true e)
 
 -- a test of each of three, and each of them
 three : (p q r : Bool) → (p && (q && r)) ≡ true → (p ≡ true) × (q ≡ true) × (r ≡ true)
 three p q r e = let k = both p (q && r) e in let l = both q r (k .1) in (k .0, l .0, l .1)
-
--- ---- (b) and (c)
-
-module _ (ts : List Tri) where
-  side-of : (t : Tri) {x y z : ℕ} → sides? ts t ≡ true → Reads t x y z → side? ts x y ≡ true
-  side-of t e r = go (three (side? ts (t .a) (t .b)) (side? ts (t .b) (t .c)) (side? ts (t .c) (t .a)) e) r
-    where
-      go : {x y z : ℕ} → (side? ts (t .a) (t .b) ≡ true) × (side? ts (t .b) (t .c) ≡ true) × (side? ts (t .c) (t .a) ≡ true) → Reads t x y z → side? ts x y ≡ true
-      go k (r0 p q r) = rw (← p, ← q) (k .0)
-      go k (r1 p q r) = rw (← p, ← q) (k .1)
-      go k (r2 p q r) = rw (← p, ← q) (k .2)
-
-  ring-of : (t : Tri) {x y z : ℕ} → rings? ts t ≡ true → Reads t x y z → ring? ts x ≡ true
-  ring-of t e r = go (three (ring? ts (t .a)) (ring? ts (t .b)) (ring? ts (t .c)) e) r
-    where
-      go : {x y z : ℕ} → (ring? ts (t .a) ≡ true) × (ring? ts (t .b) ≡ true) × (ring? ts (t .c) ≡ true) → Reads t x y z → ring? ts x ≡ true
-      go k (r0 p q r) = rw (← p) (k .0)
-      go k (r1 p q r) = rw (← p) (k .1)
-      go k (r2 p q r) = rw (← p) (k .2)
-
-  -- a side occurs at most once, and as often as its reverse
-  module _ (paired : Paired ts) where
-    once : (x y : ℕ) → sides ts x y ≤ 1
-    once x y = pick (decLt 0 (sides ts x y))
-      where
-        pick : Dec (0 < sides ts x y) → sides ts x y ≤ 1
-        pick (yes p) = omega (arith, paired .once x y p)
-        pick (no n) = omega arith
-
-    even : (x y : ℕ) → sides ts x y ≡ sides ts y x
-    even x y = pick (decLt 0 (sides ts x y)) (decLt 0 (sides ts y x))
-      where
-        pick : Dec (0 < sides ts x y) → Dec (0 < sides ts y x) → sides ts x y ≡ sides ts y x
-        pick (yes p) q = omega (arith, paired .once x y p, paired .back x y p)
-        pick (no n) (yes q) = omega (arith, paired .once y x q, paired .back y x q)
-        pick (no n) (no m) = omega arith
-
-  module _ (pa : every (sides? ts) ts ≡ true) (ra : every (rings? ts) ts ≡ true) where
-    one-side : (u v : ℕ) → 0 < sides ts u v → (sides ts u v ≡ 1) × (sides ts v u ≡ 1)
-    one-side u v p =
-        let h = side-has ts u v p in
-        let k = all-has (sides? ts) pa (h .1) in
-        let e = both (eqb (sides ts u v) 1) (eqb (sides ts v u) 1) (side-of (k .0) (k .1) (k .2)) in
-        (eqb-true (sides ts u v) 1 (e .0), eqb-true (sides ts v u) 1 (e .1))
-
-    is-paired : Paired ts
-    is-paired = record { once = λ u v p. (one-side u v p) .0; back = λ u v p. (one-side u v p) .1 }
-
-    at-corner : (v : ℕ) → InUse ts v → ring? ts v ≡ true
-    at-corner v u =
-        let h = use-has ts v u in
-        let k = all-has (rings? ts) ra (h .2) in
-        ring-of (k .0) (k .1) (k .2)
-
-    rounded : Manifold ts
-    rounded = record { paired = is-paired; ringed = λ v u. joined-ring ts v (once is-paired) (even is-paired) u (no-empty (leftover (around ts v)) (at-corner v u)) }
-
-  module _ (r : Manifold ts) where
-    here-at : (i : ℕ) → i < length ts → Has ((place ts i) .a) ((place ts i) .b) ((place ts i) .c) ts
-    here-at i l = place-has ts i l (r0 refl refl refl)
-
-    side-passes : (u v : ℕ) → 0 < sides ts u v → side? ts u v ≡ true
-    side-passes u v p = join _ _ (eq-eqb (sides ts u v) 1 (r .paired .once u v p)) (eq-eqb (sides ts v u) 1 (r .paired .back u v p))
-
-    ring-passes : (v : ℕ) → InUse ts v → ring? ts v ≡ true
-    ring-passes v u = ap empty (nothing-left ts v (once (r .paired)) (even (r .paired)) u (ring-joined ts v (r .ringed v u)))
-
-    passes : pairedRinged? ts ≡ true
-    unfolding pairedRinged?
-    passes = join _ _
-        (at-all (sides? ts) (tri 0 0 0) ts (λ i l. let h = here-at i l in
-        join _ _ (side-passes _ _ (has-side h)) (join _ _ (side-passes _ _ (has-side (spin h))) (side-passes _ _ (has-side (spin (spin h)))))))
-        (at-all (rings? ts) (tri 0 0 0) ts (λ i l. let h = here-at i l in
-        join _ _ (ring-passes _ (in-use h)) (join _ _ (ring-passes _ (in-use (spin h))) (ring-passes _ (in-use (spin (spin h)))))))
-
-pub pairedRinged?-iff : (ts : List Tri) → (pairedRinged? ts ≡ true) ↔ Manifold ts
-unfolding pairedRinged?
-pairedRinged?-iff ts = (
-  (λ e. let p = both (every (sides? ts) ts) (every (rings? ts) ts) e in rounded ts (p .0) (p .1)),
-  λ r. passes ts r,
-)
 
 -- ---- (a)
 

@@ -1,28 +1,50 @@
 -- `checking::whole` meets its contract: each way out is a case of `asWhole`. Assumes nothing.
-use mathlib.Core.Path.{_≡_, sym, _∙_}
+use mathlib.Core.Path.{_≡_, sym, ap, _∙_}
 use borrow.Author.Needs.{needs}
 use borrow.Author.Tests.{not-true, not-false}
 use denote.Ref.{now}
 use Rattle.surface.specs.Triangle.{triangles}
-use Rattle.surface.specs.Closed.{Manifold}
-use Rattle.checking.proofs.Cases.{not-round, volume-infinite, volume-low, volume-kept}
+use Rattle.surface.specs.Finding.{finding}
+use Rattle.questions.specs.Refusal.{onFinding}
+use Rattle.questions.specs.declared.Asked.the-variants as asked
+use Rattle.checking.proofs.Cases.{not-closed, volume-infinite, volume-low, volume-kept}
 use Rattle.checking.proofs.whole.Statement.{statement}
 use Rattle.checking.proofs.whole.Tie as tie
 
-closed-oriented-manifold-requires : tie.Need-closed-oriented-manifold-requires
-closed-oriented-manifold-requires c κs = search needs
+finding-requires : tie.Need-finding-requires
+finding-requires c κs = search needs
+
+on-finding-requires : tie.Need-on-finding-requires
+on-finding-requires c κs = search needs
+
+-- what was found, and what it answers
+abbrev judged : tie.After-on-finding → tie.After-finding
+judged f = f .before .before .before
+
+abbrev start : tie.After-finding → tie.Start
+start d = d .before .before .before .before
+
+asks : (f : tie.After-on-finding) → onFinding (finding (triangles (now (start (judged f) .args .corners)))) ≡ f .on-finding .result
+asks f = ap onFinding (sym (judged f .finding .ensures .answer)) ∙ sym (f .on-finding .ensures)
+
+enum-known-why : tie.Need-enum-known-why
+enum-known-why c = search needs
 
 same-length : tie.Need-same-length
 same-length c = search needs
 
--- where the rules hold
-round : (c : tie.Else1) → Manifold (triangles (now (c .before .before .before .before .before .before .before .args .corners)))
-round c = c .before .before .before .closed-oriented-manifold .ensures .decides .0 (not-false _ (c .if1 .left))
-
 returns : tie.Need-returns
 returns c =
-    let d = c .before .before .before .closed-oriented-manifold .ensures in
-    record { answer = not-round _ _ _ _ (d .decides .1) (not-true _ (c .if1 .taken)); words = d .zeroed }
+    let y = c .before in
+    let f = y .before .before in
+    record { answer = not-closed _ _ _ (asks f ∙ y .why .given .1); words = judged f .finding .ensures .zeroed }
+
+enum-told : tie.Need-enum-told
+enum-told c = search needs
+
+-- where the rules hold
+closed : (t : tie.After-enum-told) → onFinding (finding (triangles (now (start (judged (t .before .before)) .args .corners)))) ≡ asked.Passed
+closed t = asks (t .before .before) ∙ t .enum-told .given .1
 
 is-finite-requires : tie.Need-is-finite-requires
 is-finite-requires c κs = search needs
@@ -32,35 +54,38 @@ same-length-2 c = search needs
 
 returns-2 : tie.Need-returns-2
 returns-2 c =
-    let e = c .before .before in
-    record { answer = volume-infinite _ _ _ (round e) (sym (c .before .is-finite .ensures) ∙ not-true _ (c .if2 .taken)); words = e .before .before .before .closed-oriented-manifold .ensures .zeroed }
+    let t = c .before .before in
+    record { answer = volume-infinite _ _ _ (closed t) (sym (c .before .is-finite .ensures) ∙ not-true _ (c .if1 .taken)); words = judged (t .before .before) .finding .ensures .zeroed }
 
 same-length-3 : tie.Need-same-length-3
 same-length-3 c = search needs
 
 returns-3 : tie.Need-returns-3
 returns-3 c =
-    let e = c .before .before .before in
-    record { answer = volume-low _ _ _ (round e) (c .if3 .taken); words = e .before .before .before .closed-oriented-manifold .ensures .zeroed }
+    let t = c .before .before .before in
+    record { answer = volume-low _ _ _ (closed t) (c .if2 .taken); words = judged (t .before .before) .finding .ensures .zeroed }
 
 same-length-4 : tie.Need-same-length-4
 same-length-4 c = search needs
 
 returns-4 : tie.Need-returns-4
 returns-4 c =
-    let e = c .before .before .before in
+    let t = c .before .before .before in
     record {
-      answer = volume-kept _ _ _ (round e) (sym (c .before .before .is-finite .ensures) ∙ not-false _ (c .before .if2 .left)) (c .if3 .left);
-      words = e .before .before .before .closed-oriented-manifold .ensures .zeroed;
+      answer = volume-kept _ _ _ (closed t) (sym (c .before .before .is-finite .ensures) ∙ not-false _ (c .before .if1 .left)) (c .if2 .left);
+      words = judged (t .before .before) .finding .ensures .zeroed;
     }
 
 pub whole-spec : {M : Type 1} → statement M
 whole-spec =
     tie.close
     (tie.spec
-    closed-oriented-manifold-requires
+    finding-requires
+    on-finding-requires
+    enum-known-why
     same-length
     returns
+    enum-told
     is-finite-requires
     same-length-2
     returns-2

@@ -3,7 +3,7 @@ use Prim.Native.Nat.{ℕ, _%_, _^_}
 use mathlib.Core.Path.{_≡_, refl, sym, ap, ap₂, _∙_}
 use mathlib.Core.List.{List, [], _∷_}
 use lib.Ieee.{Float}
-use Rattle.editing.specs.Edit.{EditRun, numberOf, trianglesOf, editsOf}
+use Rattle.editing.specs.Edit.{EditRun, numberOf, trianglesOf, editsOf, placeOf}
 use Rattle.editing.specs.declared.Outcome.{Outcome}
 use Rattle.lanovishel.specs.Edit.{EditCall}
 use borrow.Author.Needs.{needs}
@@ -12,13 +12,14 @@ use Rattle.lanovishel.proofs.lanovishel_edit.Tie as tie
 
 handed : {points : List Float} {corners₀ labels₀ work₀ entries verdicts₀ journal₀ corners₁ labels₁ work₁ verdicts₁ journal₁ : List ℕ} {r : Outcome}
     → EditRun points corners₀ labels₀ work₀ entries verdicts₀ journal₀ corners₁ labels₁ work₁ verdicts₁ journal₁ r → (v : Outcome) → r ≡ v
-    → (x y : ℕ) → x ≡ trianglesOf v % 2 ^ 32 → y ≡ editsOf v % 2 ^ 32
-    → EditCall points corners₀ labels₀ work₀ entries verdicts₀ journal₀ corners₁ labels₁ work₁ verdicts₁ journal₁ (x ∷ y ∷ []) (numberOf v)
-handed {r = r} d v e x y p q = record {
+    → (x y : ℕ) → x ≡ trianglesOf v % 2 ^ 32 → y ≡ editsOf v % 2 ^ 32 → {place : List ℕ} {number : ℕ} → place ≡ placeOf v → number ≡ numberOf v
+    → EditCall points corners₀ labels₀ work₀ entries verdicts₀ journal₀ corners₁ labels₁ work₁ verdicts₁ journal₁ (x ∷ y ∷ []) place number
+handed {r = r} d v e x y p q l n = record {
   outcome = r;
   run = d;
-  is = ap numberOf (sym e);
+  is = n ∙ ap numberOf (sym e);
   answer = ap₂ (λ (m n : ℕ). m ∷ n ∷ []) (p ∙ ap (λ (o : Outcome). trianglesOf o % 2 ^ 32) (sym e)) (q ∙ ap (λ (o : Outcome). editsOf o % 2 ^ 32) (sym e));
+  place = l ∙ ap placeOf (sym e);
 }
 
 edit-requires : tie.Need-edit-requires
@@ -33,8 +34,14 @@ low-word-requires c κs = search needs
 low-word-requires-2 : tie.Need-low-word-requires-2
 low-word-requires-2 c κs = search needs
 
-enum-known-number : tie.Need-enum-known-number
-enum-known-number c = search needs
+enum-known-why : tie.Need-enum-known-why
+enum-known-why c = search needs
+
+place-requires : tie.Need-place-requires
+place-requires c κs = search needs
+
+number-requires : tie.Need-number-requires
+number-requires c κs = search needs
 
 same-length : tie.Need-same-length
 same-length c = search needs
@@ -53,10 +60,11 @@ same-length-5 c = search needs
 
 returns : tie.Need-returns
 returns c =
-    let v = c .before .before in
+    let w = c .before .before in
+    let v = w .before in
     let t = v .before .before in
     let e = t .before .before .before .before .before .before .before .before .before .before .before .before in
-    handed (e .edit .ensures) _ (t .triangles .given .1) _ _ (v .low-word .ensures) (c .before .low-word2 .ensures)
+    handed (e .edit .ensures) _ (t .triangles .given .1) _ _ (v .low-word .ensures) (w .low-word2 .ensures) refl refl
 
 same-length-6 : tie.Need-same-length-6
 same-length-6 c = search needs
@@ -75,9 +83,10 @@ same-length-10 c = search needs
 
 returns-2 : tie.Need-returns-2
 returns-2 c =
-    let t = c .before .before in
+    let p = c .before .before in
+    let t = p .before .before .before in
     let e = t .before .before .before .before .before .before .before .before .before .before .before .before in
-    handed (e .edit .ensures) _ (t .number .given .1) _ _ refl refl
+    handed (e .edit .ensures) _ (t .why .given .1) _ _ refl refl (p .place2 .ensures) (c .number .ensures)
 
 pub lanovishel-edit-spec : {M : Type 1} → statement M
 lanovishel-edit-spec =
@@ -87,7 +96,9 @@ lanovishel-edit-spec =
     enum-known-triangles
     low-word-requires
     low-word-requires-2
-    enum-known-number
+    enum-known-why
+    place-requires
+    number-requires
     same-length
     same-length-2
     same-length-3
