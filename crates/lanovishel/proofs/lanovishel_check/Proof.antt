@@ -51,7 +51,7 @@ same-length-2 c = search needs
 returns-2 : tie.Need-returns-2
 unfolding ofBits ofInt
 returns-2 c =
-    let p = c .before .before in
+    let p = c .before in
     let q = p .before .before .before in
     let v = q .before .before .before .before in
     handed (v .validate .ensures) (q .why .given .1) (p .place2 .ensures) (c .number .ensures)

@@ -90,7 +90,7 @@ same-length-8 c = search needs
 
 returns-2 : tie.Need-returns-2
 returns-2 c =
-    let p = c .before .before in
+    let p = c .before in
     let t = p .before .before .before in
     let e = t .before .before .before .before .before .before .before .before .before .before in
     handed (e .improve .ensures) _ (t .why .given .1) _ _ _ refl refl refl (p .place2 .ensures) (c .number .ensures)
