@@ -114,6 +114,8 @@ unfolding rings.tos rings.is
 same-tos [] z = refl
 same-tos (s ∷ l) z = ap (λ (n : ℕ). one (eqb (s .to) z) + n) (same-tos l z)
 
+pub sides-tos : (c : List ℕ) (u y : ℕ) → length c % 3 ≡ 0 → sides (triangles c) y u ≡ tos y (pl c u 0 (length c))
+sides-tos c u y h = sym (tos-around (triangles c) u y) ∙ sym (same-tos (around (triangles c) u) y) ∙ ap (tos y) (around-places c u h)
+
 pub hits-comes : (c : List ℕ) (u y : ℕ) → length c % 3 ≡ 0 → hits pv c u y (length c) ≡ sides (triangles c) y u
-hits-comes c u y h =
-    hits-tally pv ends c u y (λ k. refl) (length c) ∙ ap (tally (ends y)) (sym (around-places c u h)) ∙ same-tos (around (triangles c) u) y ∙ tos-around (triangles c) u y
+hits-comes c u y h = hits-tally pv ends c u y (λ k. refl) (length c) ∙ sym (sides-tos c u y h)

@@ -11,18 +11,19 @@ use lib.ListN.{length, set, drop}
 use lib.Seq.{getD-set-same, getD-set-other, drop-set-lt}
 use borrow.Author.Tests.{eqb-true, eqb-false, ltb-true, ltb-false}
 use Rattle.surface.specs.Triangle.{triangles}
-use Rattle.surface.specs.Closed.{Step, sides, around, InUse, Ring, Paired}
+use Rattle.surface.specs.Closed.{Step, sides, around, InUse, Ring, Paired, Manifold}
 use Rattle.surface.specs.Finding.{IsLone, IsSplit, NoneRepeated, Before, SmallestPair, Finds}
 use Rattle.surface.specs.declared.Finding.the-variants.{Closed, Repeated, Lone, Split}
-use Rattle.surface.proofs.Findings.{paired-once, none-paired, none-manifold}
+use Rattle.surface.proofs.Findings.{paired-once, none-paired}
 use Rattle.halfedges.specs.Place.{nx, pv, at, last, Sized, Linked, stamp, Stamped}
-use Rattle.halfedges.proofs.Steps.{froms, around-places, sides-froms}
-use Rattle.halfedges.proofs.Fine.{Fine, nx-below, pv-below, unused-past}
+use Rattle.halfedges.proofs.Steps.{froms, pl, around-places, sides-froms}
+use Rattle.halfedges.proofs.Fine.{Fine, nx-below, pv-below, from-of, in-length, ring-even}
 use Rattle.halfedges.proofs.Turns.{same-or}
-use Rattle.closing.specs.Locating.{hits, Some, Two, Unmet, Least, lower, Met, Wrong, IsFirst}
+use Rattle.closing.specs.Locating.{hits, Some, Two, Unmet, Least, lower, Met, Wrong, IsFirst, NoneBelow}
+use Rattle.closing.specs.Stages.{FirstUnringed}
 use Rattle.closing.specs.declared.Side.{Side}
 use Rattle.closing.specs.declared.Side.the-variants.{Found, Nowhere}
-use Rattle.closing.proofs.Hits.{hits-zero, hits-yes, hits-no, hits-le, hits-last, hits-place, hits-runs, hits-comes}
+use Rattle.closing.proofs.Hits.{hits-zero, hits-yes, hits-no, hits-le, hits-last, hits-place, hits-runs, sides-tos, hits-comes}
 
 -- ---- the smallest number so far
 
@@ -214,6 +215,22 @@ module _ (c : List ℕ) (p : ℕ) (thirds : length c % 3 ≡ 0) (below : (k : �
   pub none-below : (lone : Bool) → ((x : ℕ) → x < p → (y : ℕ) → Wrong lone (triangles c) x y → ⊥) → (u v : ℕ) → Wrong lone (triangles c) u v → ⊥
   none-below lone passed u v q = passed u (wrong-below lone u v q .0) v q
 
+-- no such side starts at a corner whose steps are one ring
+module _ (c : List ℕ) (thirds : length c % 3 ≡ 0) where
+  fine-answered : (u y : ℕ) → Fine c u → 0 < sides (triangles c) u y → 0 < sides (triangles c) y u
+  fine-answered u y fine q =
+      let l = pl c u 0 (length c) in
+      let e = sides-froms (triangles c) u y ∙ ap (froms y) (around-places c u thirds) in
+      let f = from-of y l (omega arith) in
+      omega (arith, sides-tos c u y thirds, ring-even y l (fine .ring (in-length (f .s) l (f .among))))
+
+  none-wrong : (lone : Bool) (u y : ℕ) → Fine c u → Wrong lone (triangles c) u y → ⊥
+  none-wrong false u y fine q = omega (arith, q, sides-froms (triangles c) u y ∙ ap (froms y) (around-places c u thirds), fine .single y)
+  none-wrong true u y fine q = omega (arith, q .1, fine-answered u y fine (q .0))
+
+  pub none-before : (lone : Bool) {p m v : ℕ} → FirstUnringed c p m v → NoneBelow lone (triangles c) v
+  none-before lone h x l y q = none-wrong lone x y (h .fine x l) q
+
 -- what the answer says
 pub first-found : {P : ℕ → ℕ → Type 0} {r : Side} {u v : ℕ} → r ≡ Found u v → IsFirst P r → SmallestPair P u v
 unfolding IsFirst
@@ -250,7 +267,7 @@ module _ (c : List ℕ) (single : NoneRepeated (triangles c)) where
   pub paired-of : ((u v : ℕ) → Wrong true (triangles c) u v → ⊥) → Paired (triangles c)
   paired-of none = none-paired (triangles c) single (λ u v q. none u v (lone-wrong u v q))
 
-module _ (c : List ℕ) (p : ℕ) (thirds : length c % 3 ≡ 0) (below : (k : ℕ) → k < length c → at c k < p) (paired : Paired (triangles c)) where
+module _ (c : List ℕ) (p : ℕ) (thirds : length c % 3 ≡ 0) (paired : Paired (triangles c)) where
   fine-at : (v : ℕ) → (InUse (triangles c) v → Ring (around (triangles c) v)) → Fine c v
   fine-at v ring =
       let e = around-places c v thirds in
@@ -271,14 +288,10 @@ module _ (c : List ℕ) (p : ℕ) (thirds : length c % 3 ≡ 0) (below : (k : �
       used (yes u) = u
       used (no m) = absurd (n (fine-at v (λ u. absurd (m u))))
 
-  pub finds-split : (r : ℕ) → Least (λ v. Fine c v → ⊥) p r → r < p → Finds (triangles c) (Split r)
+  pub finds-split : (r : ℕ) → FirstUnringed c p 1 r → r < p → Finds (triangles c) (Split r)
   unfolding Finds
-  finds-split r h l = (paired, record { holds = split-of r (h .holds l); smallest = λ x m s. h .before x m (not-fine x s) })
+  finds-split r h l = (paired, record { holds = split-of r (λ f. h .nay l f (λ q. q)); smallest = λ x m s. not-fine x s (h .fine x m) })
 
-  pub finds-closed : (r : ℕ) → Least (λ v. Fine c v → ⊥) p r → p ≤ r → Finds (triangles c) Closed
-  unfolding Finds
-  finds-closed r h l = none-manifold (triangles c) paired (λ v s. h .before v (low v (s .0) (decLt v p)) (not-fine v s))
-    where
-      low : (v : ℕ) → InUse (triangles c) v → Dec (v < p) → v < r
-      low v u (yes m) = omega arith
-      low v u (no m) = absurd (omega (arith, unused-past c v p below (omega arith), ap (λ (l : List Step). length l) (around-places c v thirds), u))
+pub finds-closed : (c : List ℕ) → Manifold (triangles c) → Finds (triangles c) Closed
+unfolding Finds
+finds-closed c m = m

@@ -5,7 +5,6 @@ use mathlib.Core.Logic.{_↔_}
 use mathlib.Core.Bool.{Bool, true, false, false≢true}
 use mathlib.Core.List.{List}
 use Rattle.surface.specs.Triangle.{triangles}
-use Rattle.surface.specs.Closed.{Manifold, Closed}
 use Rattle.surface.specs.Euler.{Below}
 use Rattle.surface.specs.declared.Finding.{Finding}
 use Rattle.surface.specs.declared.Finding.the-variants as finds
@@ -14,7 +13,7 @@ use Rattle.surface.specs.Original.{originalClosed}
 use Rattle.surface.specs.PageTwelve.{Relisted}
 use Rattle.surface.proofs.PageTwelve.{page-twelve}
 use Rattle.surface.proofs.Original.{original-iff}
-use Rattle.closing.specs.Closing.{Decided, Found, ClosedDecided}
+use Rattle.closing.specs.Closing.{Found, ClosedDecided}
 
 -- two tests that are passed together give one answer
 same-answer : (r s : Bool) → ((r ≡ true) ↔ (s ≡ true)) → r ≡ s
@@ -23,30 +22,15 @@ same-answer true false e = absurd (false≢true (e .0 refl))
 same-answer false true e = absurd (false≢true (e .1 refl))
 same-answer false false e = refl
 
-module _ {c d : List ℕ} (relisted : Relisted (triangles c) (triangles d)) {p q : ℕ} {w w′ x x′ : List ℕ} {r s : Bool} where
-  pub decided-order : Decided c p w w′ r → Decided d q x x′ s → r ≡ s
-  decided-order h k =
-      let t = page-twelve relisted in
-      same-answer r s (
-        (λ e. let m = h .decides .0 e in k .decides .1 (record { paired = t .paired .0 (m .paired); ringed = t .ringed .0 (m .ringed) })),
-        λ e. let m = k .decides .0 e in h .decides .1 (record { paired = t .paired .1 (m .paired); ringed = t .ringed .1 (m .ringed) }),
-      )
-
-  pub closed-order : ClosedDecided c p w w′ r → ClosedDecided d q x x′ s → r ≡ s
-  closed-order h k =
-      let t = page-twelve relisted in
-      same-answer r s ((λ e. k .decides .1 (t .closed .0 (h .decides .0 e))), λ e. h .decides .1 (t .closed .1 (k .decides .0 e)))
+pub closed-order : {c d : List ℕ} → Relisted (triangles c) (triangles d) → {p q : ℕ} {w w′ x x′ : List ℕ} {r s : Bool} → ClosedDecided c p w w′ r → ClosedDecided d q x x′ s → r ≡ s
+closed-order relisted {r = r} {s = s} h k =
+    let t = page-twelve relisted in
+    same-answer r s ((λ e. k .decides .1 (t .closed .0 (h .decides .0 e))), λ e. h .decides .1 (t .closed .1 (k .decides .0 e)))
 
 pub found-order : {c d : List ℕ} → Relisted (triangles c) (triangles d) → {p q : ℕ} {w w′ x x′ : List ℕ} {f g : Finding} → Found c p w w′ f → Found d q x x′ g → f ≡ g
 found-order relisted h k = h .answer ∙ finding-order relisted ∙ sym (k .answer)
 
--- the answer of the Rust's `closed_oriented_manifold`, where document 01's order of questions reaches it: every corner is on the list
-pub original-answer : {c : List ℕ} {p : ℕ} {w w′ : List ℕ} {r : Bool} → Below p (triangles c) → Decided c p w w′ r → r ≡ originalClosed (triangles c) p
-original-answer {c} {p} {r = r} below h =
-    let o = original-iff (triangles c) p below in
-    same-answer r (originalClosed (triangles c) p) ((λ e. o .1 (h .decides .0 e)), λ e. h .decides .1 (o .0 e))
-
--- beside the original all three findings mean no
+-- Beside the Rust's `closed_oriented_manifold`, where document 01's order of questions reaches it (every corner is on the list): all three findings mean no.
 pub found-original : {c : List ℕ} {p : ℕ} {w w′ : List ℕ} {f : Finding} → Below p (triangles c) → Found c p w w′ f → (f ≡ finds.Closed) ↔ (originalClosed (triangles c) p ≡ true)
 found-original {c} {p} below h =
     let o = original-iff (triangles c) p below in

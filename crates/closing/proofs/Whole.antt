@@ -8,12 +8,14 @@ use lib.Dec.{ltb}
 use lib.ListN.{length, drop, replicate, length-replicate, getD-replicate, List·getD-append}
 use lib.Seq.{drop-drop, drop-at}
 use borrow.Author.Tests.{ltb-true, ltb-false}
+use Rattle.surface.specs.Triangle.{triangles}
+use Rattle.surface.specs.Closed.{Manifold}
 use Rattle.halfedges.specs.Place.{at, Sized}
 use Rattle.halfedges.proofs.Fine.{Fine, fine-of, rounded-of, fine-unused, unused-past}
 use Rattle.halfedges.proofs.Steps.{length-pl}
 use Rattle.halfedges.proofs.Whole.{Enough}
 use Rattle.closing.specs.Closing.{needed, Lent, Zeroed}
-use Rattle.closing.specs.Stages.{used, Chained, Ready, AllJudged, Settled}
+use Rattle.closing.specs.Stages.{used, Chained, Ready, FirstUnringed}
 
 pub zero-at : (n i : ℕ) (w t : List ℕ) → w ≡ replicate n 0 ++ t → i < n → at w i ≡ 0
 zero-at n i w t e l =
@@ -31,13 +33,17 @@ far-on u m a b h e =
 pub far-clear : (n : ℕ) (w d : List ℕ) → w ≡ replicate n 0 ++ drop n d → drop n w ≡ drop n d
 far-clear n w d e = ap (drop n) e ∙ drop-at (replicate n 0) (drop n d) n (length-replicate n 0)
 
--- the lent words are used, then cleared; and cleared twice
-module _ (c : List ℕ) (p : ℕ) (w₀ w₁ w₂ : List ℕ) where
-  pub zeroed-used : (n : ℕ) → n ≡ needed c p → drop (needed c p) w₁ ≡ drop (needed c p) w₀ → w₂ ≡ replicate n 0 ++ drop n w₁ → Zeroed c p w₀ w₂
-  zeroed-used n en far e = e ∙ ap (λ (k : ℕ). replicate k 0 ++ drop k w₁) en ∙ ap (λ (t : List ℕ). replicate (needed c p) 0 ++ t) far
+-- the lent words are used, then cleared
+pub zeroed-used : (c : List ℕ) (p : ℕ) (w₀ w₁ w₂ : List ℕ) (n : ℕ) → n ≡ needed c p → drop (needed c p) w₁ ≡ drop (needed c p) w₀ → w₂ ≡ replicate n 0 ++ drop n w₁ → Zeroed c p w₀ w₂
+zeroed-used c p w₀ w₁ w₂ n en far e = e ∙ ap (λ (k : ℕ). replicate k 0 ++ drop k w₁) en ∙ ap (λ (t : List ℕ). replicate (needed c p) 0 ++ t) far
 
-  pub zeroed-again : Zeroed c p w₀ w₁ → Zeroed c p w₁ w₂ → Zeroed c p w₀ w₂
-  zeroed-again e f = zeroed-used (needed c p) refl (far-clear (needed c p) w₁ w₀ e) f
+-- as many words are lent as before
+pub lent-again : {c : List ℕ} {p : ℕ} {w w′ : List ℕ} → length w′ ≡ length w → Lent c p w → Lent c p w′
+lent-again e h = record { thirds = h .thirds; few = h .few; points = h .points; below = h .below; room = omega (arith, h .room) }
+
+-- where no stamp is set, any corner may come next
+pub ready-from : {c : List ℕ} {p : ℕ} {w : List ℕ} {v : ℕ} → Ready c p w 0 → Ready c p w v
+ready-from h = record { sized = h .sized; linked = h .linked; stamped = λ x l. omega (arith, h .stamped x l) }
 
 module _ (c : List ℕ) (p : ℕ) (w₀ : List ℕ) (given : Lent c p w₀) where
   pub sized-first : (w : List ℕ) → length w ≡ length w₀ → Sized c p w
@@ -71,16 +77,18 @@ module _ (c : List ℕ) (p : ℕ) (w₀ : List ℕ) (given : Lent c p w₀) wher
       go true e = h v (ltb-true v p e)
       go false e = λ q. absurd (omega (arith, q, length-pl c v (length c), unused-past c v p (given .below) (ltb-false v p e)))
 
-  pub settled : (m : ℕ) (w₁ w₂ w₃ w₄ : List ℕ) (r : Bool) (n : ℕ) → w₁ ≡ replicate (p + p + p) 0 ++ drop (p + p + p) w₀ → Chained c p w₁ w₂ → AllJudged c p m w₂ w₃ r → n ≡ needed c p → w₄ ≡ replicate n 0 ++ drop n w₃ → Settled c p m w₀ w₄ r
-  settled m w₁ w₂ w₃ w₄ r n e₁ chained judged en e₄ =
-      let far : drop (used c p) w₃ ≡ drop (used c p) w₀ = judged .far ∙ chained .far ∙ far-on (p + p + p) (used c p) w₁ w₀ (omega arith) (far-clear (p + p + p) w₁ w₀ e₁) in
-      record {
-        yea = λ q. rounded-of c (given .thirds) (all-fine (judged .yea q));
-        more = λ q. all-enough m (judged .more q);
-        nay = λ h e. answer r refl (fine-of c (given .thirds) h) e;
-        zeroed = e₄ ∙ ap (λ (k : ℕ). replicate k 0 ++ drop k w₃) en ∙ ap (λ (t : List ℕ). replicate (needed c p) 0 ++ t) (far-on (used c p) (needed c p) w₃ w₀ (omega (arith, given .thirds)) far);
-      }
-    where
-      answer : (b : Bool) → r ≡ b → ((v : ℕ) → Fine c v) → ((v : ℕ) → Enough c m v) → r ≡ true
-      answer true q f e = q
-      answer false q f e = absurd (judged .nay q f e)
+  -- no corner is found: all are fine, and have enough
+  module _ {m r : ℕ} (h : FirstUnringed c p m r) where
+    pub all-ringed : p ≤ r → Manifold (triangles c)
+    all-ringed l = rounded-of c (given .thirds) (all-fine (λ v k. h .fine v (omega arith)))
+
+    pub all-more : p ≤ r → (v : ℕ) → Enough c m v
+    all-more l = all-enough m (λ v k. h .more v (omega arith))
+
+    -- and the other way round
+    pub none-unringed : Manifold (triangles c) → ((v : ℕ) → Enough c m v) → r ≡ p
+    none-unringed k e = go (ltb r p) refl
+      where
+        go : (b : Bool) → ltb r p ≡ b → r ≡ p
+        go true q = absurd (h .nay (ltb-true r p q) (fine-of c (given .thirds) k r) (e r))
+        go false q = omega (arith, h .within, ltb-false r p q)

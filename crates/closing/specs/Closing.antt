@@ -6,7 +6,7 @@ use mathlib.Core.Bool.{Bool, true}
 use mathlib.Core.List.{List, _++_}
 use lib.ListN.{length, getD, drop, replicate}
 use Rattle.surface.specs.Triangle.{triangles}
-use Rattle.surface.specs.Closed.{Manifold, Closed}
+use Rattle.surface.specs.Closed.{Closed}
 use Rattle.surface.specs.Finding.{finding}
 use Rattle.surface.specs.declared.Finding.{Finding}
 
@@ -25,11 +25,6 @@ pub record Lent (c : List ℕ) (p : ℕ) (w : List ℕ) : Type 0 where
 -- the needed words are 0, the further ones untouched
 abbrev pub Zeroed : List ℕ → ℕ → List ℕ → List ℕ → Type 0
 Zeroed c p w w′ = w′ ≡ replicate (needed c p) 0 ++ drop (needed c p) w
-
--- rules (b) and (c)
-pub record Decided (c : List ℕ) (p : ℕ) (w w′ : List ℕ) (r : Bool) : Type 0 where
-  pub decides : (r ≡ true) ↔ Manifold (triangles c)
-  pub zeroed : Zeroed c p w w′
 
 -- rules (b) and (c), and where they fail
 pub record Found (c : List ℕ) (p : ℕ) (w w′ : List ℕ) (r : Finding) : Type 0 where

@@ -10,7 +10,6 @@ use Rattle.surface.specs.Closed.{sides}
 use Rattle.surface.specs.Finding.{IsRepeated, SmallestPair, Finds}
 use Rattle.surface.specs.declared.Finding.{Finding}
 use Rattle.halfedges.specs.Place.{nx, pv, at, plus, stamp, Stamped}
-use Rattle.halfedges.proofs.Fine.{Fine}
 use Rattle.closing.specs.Stages.{used, Ready}
 use Rattle.closing.specs.declared.Side.{Side}
 use Rattle.closing.specs.declared.Side.the-variants.{Found, Nowhere}
@@ -81,14 +80,13 @@ unfoldable pub IsFirst : (ℕ → ℕ → Type 0) → Side → Type 0
 IsFirst P (Found u v) = SmallestPair P u v
 IsFirst P Nowhere = (u v : ℕ) → P u v → ⊥
 
+-- none starts below v
+abbrev pub NoneBelow : Bool → List Tri → ℕ → Type 0
+NoneBelow lone ts v = (x : ℕ) → x < v → (y : ℕ) → Wrong lone ts x y → ⊥
+
 pub record SideSought (c : List ℕ) (p : ℕ) (lone : Bool) (w w′ : List ℕ) (r : Side) : Type 0 where
   pub far : drop (used c p) w′ ≡ drop (used c p) w
   pub first : IsFirst (Wrong lone (triangles c)) r
-
--- the smallest corner that is not fine
-pub record SplitSought (c : List ℕ) (p : ℕ) (w w′ : List ℕ) (r : ℕ) : Type 0 where
-  pub far : drop (used c p) w′ ≡ drop (used c p) w
-  pub least : Least (λ v. Fine c v → ⊥) p r
 
 -- the place is found
 pub record Located (c : List ℕ) (p : ℕ) (w w′ : List ℕ) (r : Finding) : Type 0 where

@@ -4,12 +4,9 @@ use mathlib.Core.Path.{_≡_}
 use mathlib.Core.Bool.{Bool, true, false}
 use mathlib.Core.List.{List, _++_}
 use lib.ListN.{length, drop, replicate}
-use Rattle.surface.specs.Triangle.{triangles}
 use Rattle.halfedges.specs.Place.{at, Sized, Linked, stamp, Stamped, Noted, Once, uses}
-use Rattle.surface.specs.Closed.{Manifold}
 use Rattle.halfedges.proofs.Fine.{Fine}
 use Rattle.halfedges.proofs.Whole.{Enough, Differing}
-use Rattle.closing.specs.Closing.{Zeroed}
 
 -- how many words the judgement uses: a head, a stamp and a note for each point, a link for each place
 abbrev pub used : List ℕ → ℕ → ℕ
@@ -36,7 +33,7 @@ pub record Entered (c : List ℕ) (p v : ℕ) (w w′ : List ℕ) (r : ℕ) : Ty
   pub noted : 0 < r → Noted c p w′ v 0
   pub twice : r ≡ 0 → Once c v → ⊥
 
--- after the corner v is judged, and after all are: with a ring of at least m steps, or unused
+-- after the corner v is judged: with a ring of at least m steps, or unused
 pub record Judged (c : List ℕ) (p m v : ℕ) (w w′ : List ℕ) (r : Bool) : Type 0 where
   pub ready : Ready c p w′ (suc v)
   pub far : drop (used c p) w′ ≡ drop (used c p) w
@@ -44,18 +41,16 @@ pub record Judged (c : List ℕ) (p m v : ℕ) (w w′ : List ℕ) (r : Bool) : 
   pub more : r ≡ true → Enough c m v
   pub nay : r ≡ false → Fine c v → Enough c m v → ⊥
 
-pub record AllJudged (c : List ℕ) (p m : ℕ) (w w′ : List ℕ) (r : Bool) : Type 0 where
-  pub far : drop (used c p) w′ ≡ drop (used c p) w
-  pub yea : r ≡ true → (v : ℕ) → v < p → Fine c v
-  pub more : r ≡ true → (v : ℕ) → v < p → Enough c m v
-  pub nay : r ≡ false → ((v : ℕ) → Fine c v) → ((v : ℕ) → Enough c m v) → ⊥
+-- r is the first corner that is not so, and p where there is none
+pub record FirstUnringed (c : List ℕ) (p m r : ℕ) : Type 0 where
+  pub within : r ≤ p
+  pub fine : (u : ℕ) → u < r → Fine c u
+  pub more : (u : ℕ) → u < r → Enough c m u
+  pub nay : r < p → Fine c r → Enough c m r → ⊥
 
--- rules (b) and (c) with rings of at least m steps
-pub record Settled (c : List ℕ) (p m : ℕ) (w w′ : List ℕ) (r : Bool) : Type 0 where
-  pub yea : r ≡ true → Manifold (triangles c)
-  pub more : r ≡ true → (v : ℕ) → Enough c m v
-  pub nay : Manifold (triangles c) → ((v : ℕ) → Enough c m v) → r ≡ true
-  pub zeroed : Zeroed c p w w′
+pub record Unringed (c : List ℕ) (p m : ℕ) (w w′ : List ℕ) (r : ℕ) : Type 0 where
+  pub far : drop (used c p) w′ ≡ drop (used c p) w
+  pub first : FirstUnringed c p m r
 
 -- rule (a) decided
 pub record Told (c : List ℕ) (r : Bool) : Type 0 where

@@ -1,7 +1,7 @@
 // The judgement of closedness over lent work words, in time linear in the triangles and the points.
 // The places of each corner are chained; at each corner v the step of each of its triangles, from x to y, is noted under x with a stamp of v. The x's differ where no directed side occurs twice,
 // and following the notes leads through all of them and back where every reverse is there and the triangles are one ring.
-// Where the answer is no, a second pass finds the place, corner by corner in rising order: the side from u to v is repeated where two places of u run to v, and lone where one runs to v and none comes from v.
+// Where a corner fails, the place is sought from there on, corner by corner in rising order: the side from u to v is repeated where two places of u run to v, and lone where one runs to v and none comes from v.
 // The work words: from 0 on a head for each point, from points on a stamp and a note for each point, from 3 * points on a link for each place of the corner list.
 use halfedges::after;
 use halfedges::before;
@@ -13,9 +13,10 @@ ghost use mathlib.Core.List.{_++_};
 ghost use Prim.Native.Nat.{ℕ, suc, _+_, _%_, _<_, _≤_};
 ghost use lib.ListN.{length, drop, replicate};
 ghost use Rattle.halfedges.specs.Place.{at, hopTo, trip, Sized, Inside};
-ghost use Rattle.closing.specs.Closing.{Lent, Decided, Found, ClosedDecided};
-ghost use Rattle.closing.specs.Stages.{Chained, Ready, Entered, Judged, AllJudged, Settled, Told};
-ghost use Rattle.closing.specs.Locating.{lower, Least, Unmet, Prepared, OriginsStamped, EndSought, SideSought, SplitSought, Located};
+ghost use Rattle.surface.specs.Triangle.{triangles};
+ghost use Rattle.closing.specs.Closing.{Lent, Found, ClosedDecided};
+ghost use Rattle.closing.specs.Stages.{Chained, Ready, Entered, Judged, FirstUnringed, Unringed, Told};
+ghost use Rattle.closing.specs.Locating.{lower, Least, Unmet, Prepared, OriginsStamped, EndSought, NoneBelow, SideSought, Located};
 
 // The first count words become 0.
 pub fn clear(work: &mut [u32], count: usize)
@@ -122,43 +123,6 @@ fn corner_ringed(corners: &[u32], points: usize, least: usize, v: usize, work: &
     walk_ring(points, v, work, first, count)
 }
 
-fn corners_ringed(corners: &[u32], points: usize, least: usize, work: &mut [u32]) -> bool
-    requires { ⌜ Ready (now corners) points (now work) 0 ⌝ }
-    requires { ⌜ 0 < least ⌝ }
-    ensures { λ r. ⌜ AllJudged (now (corners .entry)) points least (now (work .entry)) (now (work .exit)) r ⌝ }
-{
-    let mut v: usize = 0;
-    while v < points {
-        if corner_ringed(corners, points, least, v, work) {
-            v += 1;
-        } else {
-            return false; // v fails
-        }
-    }
-    true
-}
-
-// The stages one after the other, with the lent words 0 at the end.
-fn settle(corners: &[u32], points: usize, least: usize, work: &mut [u32]) -> bool
-    requires { ⌜ Lent (now corners) points (now work) ⌝ }
-    requires { ⌜ 0 < least ⌝ }
-    ensures { λ r. ⌜ Settled (now (corners .entry)) points least (now (work .entry)) (now (work .exit)) r ⌝ }
-{
-    clear(work, points + points + points);
-    link_corners(corners, points, work);
-    let r = corners_ringed(corners, points, least, work);
-    clear(work, corners.len() / 3 * 32 + points * 16);
-    r
-}
-
-// Decides rules (b) and (c) in time linear in the triangles and the points. The lent words, 32 for each triangle and 16 for each point, may hold anything, and are 0 afterwards.
-pub fn closed_oriented_manifold(corners: &[u32], points: usize, work: &mut [u32]) -> bool
-    requires { ⌜ Lent (now corners) points (now work) ⌝ }
-    ensures { λ r. ⌜ Decided (now (corners .entry)) points (now (work .entry)) (now (work .exit)) r ⌝ }
-{
-    settle(corners, points, 1, work)
-}
-
 // The chains are made and the stamps are 0.
 fn prepare(corners: &[u32], points: usize, work: &mut [u32])
     requires { ⌜ Lent (now corners) points (now work) ⌝ }
@@ -166,6 +130,24 @@ fn prepare(corners: &[u32], points: usize, work: &mut [u32])
 {
     clear(work, points + points + points);
     link_corners(corners, points, work);
+}
+
+// The first corner in use whose steps are not one ring of at least least steps, with no two from one corner; points where there is none.
+fn first_unringed(corners: &[u32], points: usize, least: usize, work: &mut [u32]) -> usize
+    requires { ⌜ Lent (now corners) points (now work) ⌝ }
+    requires { ⌜ 0 < least ⌝ }
+    ensures { λ r. ⌜ Unringed (now (corners .entry)) points least (now (work .entry)) (now (work .exit)) r ⌝ }
+{
+    prepare(corners, points, work);
+    let mut v: usize = 0;
+    while v < points {
+        if corner_ringed(corners, points, least, v, work) {
+            v += 1; // one ring
+        } else {
+            return v;
+        }
+    }
+    points
 }
 
 // The smaller one of x and the best so far, where x is found.
@@ -251,18 +233,19 @@ enum Side {
     Nowhere,
 }
 
-// The smallest lone or the smallest repeated side.
-fn first_side(corners: &[u32], points: usize, lone: bool, work: &mut [u32]) -> Side
+// The smallest lone or the smallest repeated side. None starts below v.
+fn first_side(corners: &[u32], points: usize, lone: bool, v: usize, work: &mut [u32]) -> Side
     requires { ⌜ Lent (now corners) points (now work) ⌝ }
+    requires { ⌜ (v ≤ points) × NoneBelow lone (triangles (now corners)) v ⌝ }
     ensures { λ r. ⌜ SideSought (now (corners .entry)) points lone (now (work .entry)) (now (work .exit)) r ⌝ }
 {
     prepare(corners, points, work);
-    let mut u: usize = 0;
+    let mut u = v;
     while u < points {
-        let v = smallest_end(corners, points, lone, u, work);
-        if v < points {
+        let end = smallest_end(corners, points, lone, u, work);
+        if end < points {
             let from = u as u32;
-            let to = v as u32;
+            let to = end as u32;
             return Side::Found(from, to);
         }
         u += 1;
@@ -270,61 +253,35 @@ fn first_side(corners: &[u32], points: usize, lone: bool, work: &mut [u32]) -> S
     Side::Nowhere
 }
 
-// The smallest corner whose steps are not one ring; points where there is none.
-fn first_split(corners: &[u32], points: usize, work: &mut [u32]) -> usize
+// The finding, where v is the first corner that is not one ring: a repeated side first, then a lone side, then v itself.
+fn locate(corners: &[u32], points: usize, v: usize, work: &mut [u32]) -> Finding
     requires { ⌜ Lent (now corners) points (now work) ⌝ }
-    ensures { λ r. ⌜ SplitSought (now (corners .entry)) points (now (work .entry)) (now (work .exit)) r ⌝ }
-{
-    prepare(corners, points, work);
-    let mut v: usize = 0;
-    while v < points {
-        if corner_ringed(corners, points, 1, v, work) {
-            v += 1; // one ring
-        } else {
-            return v;
-        }
-    }
-    points
-}
-
-// The finding, of any surface: a repeated side first, then a lone side, then a split corner.
-fn search(corners: &[u32], points: usize, work: &mut [u32]) -> Finding
-    requires { ⌜ Lent (now corners) points (now work) ⌝ }
+    requires { ⌜ FirstUnringed (now corners) points 1 v ⌝ }
     ensures { λ r. ⌜ Located (now (corners .entry)) points (now (work .entry)) (now (work .exit)) r ⌝ }
 {
-    if let Side::Found(u, v) = first_side(corners, points, false, work) {
-        return Finding::Repeated(u, v);
+    if v == points {
+        return Finding::Closed;
     }
-    if let Side::Found(u, v) = first_side(corners, points, true, work) {
-        return Finding::Lone(u, v);
+    if let Side::Found(from, to) = first_side(corners, points, false, v, work) {
+        return Finding::Repeated(from, to);
     }
-    let v = first_split(corners, points, work);
-    if v < points {
-        let corner = v as u32;
-        return Finding::Split(corner);
+    if let Side::Found(from, to) = first_side(corners, points, true, v, work) {
+        return Finding::Lone(from, to);
     }
-    Finding::Closed
+    let corner = v as u32;
+    Finding::Split(corner)
 }
 
-// What is found of rules (b) and (c), for a surface that is likely to be open: it is searched at once. The lent words as in `closed_oriented_manifold`.
-pub fn locate(corners: &[u32], points: usize, work: &mut [u32]) -> Finding
-    requires { ⌜ Lent (now corners) points (now work) ⌝ }
-    ensures { λ r. ⌜ Found (now (corners .entry)) points (now (work .entry)) (now (work .exit)) r ⌝ }
-{
-    let found = search(corners, points, work);
-    clear(work, corners.len() / 3 * 32 + points * 16); // and the place is known
-    found
-}
-
-// Judges rules (b) and (c), and says where they fail. A surface that passes is judged once, as by `closed_oriented_manifold`; only one that does not is searched.
+// Judges rules (b) and (c) as the Rust's `closed_oriented_manifold` does, and says where they fail, in time linear in the triangles and the points. Only a surface that is not closed is searched, from the first corner that fails on.
+// The lent words, 32 for each triangle and 16 for each point, may hold anything, and are 0 afterwards.
 pub fn finding(corners: &[u32], points: usize, work: &mut [u32]) -> Finding
     requires { ⌜ Lent (now corners) points (now work) ⌝ }
     ensures { λ r. ⌜ Found (now (corners .entry)) points (now (work .entry)) (now (work .exit)) r ⌝ }
 {
-    if closed_oriented_manifold(corners, points, work) {
-        return Finding::Closed;
-    }
-    locate(corners, points, work)
+    let v = first_unringed(corners, points, 1, work);
+    let found = locate(corners, points, v, work);
+    clear(work, corners.len() / 3 * 32 + points * 16);
+    found
 }
 
 // Whether the corners of each triangle differ: rule (a).
@@ -356,10 +313,11 @@ pub fn closed_surface(corners: &[u32], points: usize, work: &mut [u32]) -> bool
     requires { ⌜ Lent (now corners) points (now work) ⌝ }
     ensures { λ r. ⌜ ClosedDecided (now (corners .entry)) points (now (work .entry)) (now (work .exit)) r ⌝ }
 {
-    if corners_differ(corners) {
-        settle(corners, points, 3, work)
-    } else {
-        clear(work, corners.len() / 3 * 32 + points * 16);
-        false
+    if !corners_differ(corners) {
+        clear(work, corners.len() / 3 * 32 + points * 16); // rule (a) fails
+        return false;
     }
+    let v = first_unringed(corners, points, 3, work);
+    clear(work, corners.len() / 3 * 32 + points * 16); // the rules are decided
+    v == points
 }

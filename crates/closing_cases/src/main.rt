@@ -2,6 +2,7 @@
 // A list is written as digits, a corner each; other characters part the triangles.
 use halfedges::wide;
 use libc::STDOUT_FILENO;
+use surface::Finding;
 ghost use mathlib.Core.Path.{_≡_};
 ghost use mathlib.Core.Bool.{true};
 ghost use Prim.Native.Nat.{ℕ, _<_, _≤_};
@@ -22,7 +23,17 @@ fn within(corners: &[u32], points: usize) -> bool
     true
 }
 
-// c closed, m only by rules (b) and (c), n neither, ? not to be asked.
+// The letter of a finding: m closed by rules (b) and (c), r a repeated side, l a lone side, s a split corner.
+fn found(finding: Finding) -> u8 {
+    match finding {
+        Finding::Closed => b'm',
+        Finding::Repeated(_, _) => b'r',
+        Finding::Lone(_, _) => b'l',
+        Finding::Split(_) => b's',
+    }
+}
+
+// c closed by all four rules, ? not to be asked, else what is found of (b) and (c).
 fn judged(corners: &[u32], points: usize, work: &mut [u32]) -> u8 {
     if corners.len() % 3 != 0 {
         return b'?';
@@ -40,10 +51,7 @@ fn judged(corners: &[u32], points: usize, work: &mut [u32]) -> u8 {
         if closing::closed_surface(corners, points, work) {
             return b'c';
         }
-        if closing::closed_oriented_manifold(corners, points, work) {
-            return b'm';
-        }
-        return b'n';
+        return found(closing::finding(corners, points, work));
     }
     b'?'
 }

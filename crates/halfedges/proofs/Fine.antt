@@ -67,7 +67,7 @@ in-length s [] i = absurd i
 in-length s (t ∷ l) i = omega arith
 
 -- a ring starts where it ends
-ring-even : (x : ℕ) (l : List Step) → Ring l → tos x l ≡ froms x l
+pub ring-even : (x : ℕ) (l : List Step) → Ring l → tos x l ≡ froms x l
 ring-even x l r = omega (arith, leads-even x (r .start) (r .start) (r .order) (r .leads), tally-perm (starts x) (r .same), tally-perm (ends x) (r .same))
 
 module _ (c : List ℕ) (h : length c % 3 ≡ 0) (fine : (v : ℕ) → Fine c v) where

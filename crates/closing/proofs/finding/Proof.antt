@@ -1,45 +1,56 @@
--- `closing::finding` meets its contract: where the judgement says yes it is `Closed`, else what is located.
-use mathlib.Core.Path.{_≡_, sym, ap, _∙_}
-use mathlib.Core.List.{List, _++_}
-use lib.ListN.{replicate}
+-- `closing::finding` meets its contract: what is located from the first corner that fails is what `finding` computes.
+use Prim.Native.Nat.{_+_, _*_, _/_, _≤_}
+use mathlib.Core.Path.{_≡_, _∙_}
+use native.Mathlib.Omega.{arith}
+use lib.ListN.{length}
 use denote.Ref.{now}
 use borrow.Author.Needs.{needs}
 use Rattle.surface.specs.Triangle.{triangles}
-use Rattle.surface.proofs.Findings.{finding-closed}
+use Rattle.surface.proofs.Findings.{finds-finding}
 use Rattle.closing.specs.Closing.{needed}
-use Rattle.closing.proofs.Whole.{zeroed-again}
+use Rattle.closing.specs.Stages.{used}
+use Rattle.closing.proofs.Whole.{far-on, zeroed-used, lent-again}
 use Rattle.closing.proofs.finding.Statement.{statement}
 use Rattle.closing.proofs.finding.Tie as tie
 
-closed-oriented-manifold-requires : tie.Need-closed-oriented-manifold-requires
-closed-oriented-manifold-requires c κs = search needs
+first-unringed-requires : tie.Need-first-unringed-requires
+first-unringed-requires c κs = search needs
+
+locate-requires : tie.Need-locate-requires
+locate-requires c κs =
+    let u = c .before .before .before in
+    (lent-again (u .first-unringed .kept .1 .1 .1 .0) (u .before .before .before .before .pre), u .first-unringed .ensures .first)
+
+mul-clear : tie.Need-mul-clear
+mul-clear c = search needs
+
+mul-clear-2 : tie.Need-mul-clear-2
+mul-clear-2 c = search needs
+
+add-clear : tie.Need-add-clear
+add-clear c = search needs
+
+clear-requires : tie.Need-clear-requires
+clear-requires c κs = search needs
 
 same-length : tie.Need-same-length
 same-length c = search needs
 
 returns : tie.Need-returns
 returns c =
-    let d = c .before .before .before in
-    let s = d .before .before .before .before in
-    let e = d .closed-oriented-manifold .ensures in
-    record { answer = sym (finding-closed (triangles (now (s .args .corners))) .1 (e .decides .0 (c .if1 .taken))); zeroed = e .zeroed }
-
-locate-requires : tie.Need-locate-requires
-locate-requires c κs = search needs
-
-same-length-2 : tie.Need-same-length-2
-same-length-2 c = search needs
-
-returns-2 : tie.Need-returns-2
-returns-2 c =
-    let l = c .before .before in
-    let d = l .before .before .before .before .before in
-    let s = d .before .before .before .before in
-    let e = l .locate .ensures in
+    let k = c .before .before in
+    let l = k .before .before .before .before in
+    let u = l .before .before .before .before in
+    let s = u .before .before .before .before in
+    let cs = now (s .args .corners) in
+    let p = s .args .points in
+    let m : length cs / 3 * 32 + p * 16 ≡ needed cs p = omega arith in
+    let few : used cs p ≤ needed cs p = omega (arith, s .pre .thirds) in
     record {
-      answer = e .answer;
-      zeroed = zeroed-again (now (s .args .corners)) (s .args .points) (now (s .args .work)) (d .closed-oriented-manifold .last .1 .1 .0) (l .locate .last .1 .1 .0) (d .closed-oriented-manifold .ensures .zeroed) (e .zeroed);
+      answer = finds-finding (triangles cs) (l .locate .result) (l .locate .ensures .finds);
+      zeroed = zeroed-used cs p (now (s .args .work)) (l .locate .last .1 .1 .1 .0) (k .clear .last .0) (length cs / 3 * 32 + p * 16) m
+          (far-on (used cs p) (needed cs p) (l .locate .last .1 .1 .1 .0) (now (s .args .work)) few (l .locate .ensures .far ∙ u .first-unringed .ensures .far)) (k .clear .ensures);
     }
 
 pub finding-spec : {M : Type 1} → statement M
-finding-spec = tie.close (tie.spec closed-oriented-manifold-requires same-length returns locate-requires same-length-2 returns-2)
+finding-spec = tie.close (tie.spec first-unringed-requires locate-requires mul-clear mul-clear-2 add-clear clear-requires same-length returns)

@@ -11,6 +11,7 @@ use borrow.Author.Count.{below-more}
 use Rattle.surface.specs.Triangle.{triangles}
 use Rattle.closing.specs.Stages.{used, Ready}
 use Rattle.closing.specs.Locating.{Wrong, IsFirst}
+use Rattle.closing.proofs.Whole.{ready-from}
 use Rattle.closing.proofs.Locating.{none-at, first-at, none-below}
 use Rattle.closing.proofs.first_side.Statement.{statement}
 use Rattle.closing.proofs.first_side.Tie as tie
@@ -23,16 +24,19 @@ record Going (c : List ℕ) (p : ℕ) (lone : Bool) (w₀ w : List ℕ) (u : ℕ
   passed : (x : ℕ) → x < u → (y : ℕ) → Wrong lone (triangles c) x y → ⊥
 
 abbrev Inv-loop : tie.InvT-loop
-Inv-loop corners points lone work₀ u₀ work u = Going corners points lone work₀ work u
+Inv-loop corners points lone v work₀ u₀ work u = Going corners points lone work₀ work u
 
 abbrev μ-loop : tie.MeasureT-loop
-μ-loop corners points lone work₀ u₀ work u = points - u
+μ-loop corners points lone v work₀ u₀ work u = points - u
 
 prepare-requires : tie.Need-prepare-requires Inv-loop μ-loop
-prepare-requires c κs = c .before .before .before .pre
+prepare-requires c κs = c .before .before .before .pre .0
 
 loop-holds : tie.Need-loop-holds Inv-loop μ-loop
-loop-holds c = record { low = omega arith; size = refl; ready = c .before .before .prepare .ensures .ready; far = refl; passed = λ x l. absurd (omega arith) }
+loop-holds c =
+    let d = c .before .before in
+    let s = d .before .before .before .before in
+    record { low = s .pre .1 .0; size = refl; ready = ready-from (d .prepare .ensures .ready); far = refl; passed = s .pre .1 .1 }
 
 abbrev prepared : tie.At-loop Inv-loop μ-loop → tie.After-prepare Inv-loop μ-loop
 prepared l = l .before .before .before
@@ -50,10 +54,10 @@ smallest-end-requires : tie.Need-smallest-end-requires Inv-loop μ-loop
 smallest-end-requires c κs = (c .before .before .loop .inv .ready, c .before .loop-test .taken)
 
 cast-from : tie.Need-cast-from Inv-loop μ-loop
-cast-from c = let i = in-loop (c .before) in omega (arith, i .loop-test .taken, start (i .before) .pre .points)
+cast-from c = let i = in-loop (c .before) in omega (arith, i .loop-test .taken, start (i .before) .pre .0 .points)
 
 cast-to : tie.Need-cast-to Inv-loop μ-loop
-cast-to c = omega (arith, start (in-loop (c .before) .before) .pre .points)
+cast-to c = omega (arith, start (in-loop (c .before) .before) .pre .0 .points)
 
 same-length : tie.Need-same-length Inv-loop μ-loop
 same-length c =
@@ -68,11 +72,11 @@ returns c =
     let e = d .smallest-end .ensures in
     record {
       far = e .far ∙ l .loop .inv .far ∙ prepared l .prepare .ensures .far;
-      first = unfold IsFirst in first-at (now (s .args .corners)) (s .args .points) (s .pre .thirds) (s .pre .below) (s .args .lone) (l .loop .u) (d .smallest-end .result) (e .least) (c .if1 .taken) (l .loop .inv .passed);
+      first = unfold IsFirst in first-at (now (s .args .corners)) (s .args .points) (s .pre .0 .thirds) (s .pre .0 .below) (s .args .lone) (l .loop .u) (d .smallest-end .result) (e .least) (c .if1 .taken) (l .loop .inv .passed);
     }
 
 add-u : tie.Need-add-u Inv-loop μ-loop
-add-u c = let l = in-loop (c .before) .before in omega (arith, start l .pre .points)
+add-u c = let l = in-loop (c .before) .before in omega (arith, start l .pre .0 .points)
 
 loop-less : tie.Need-loop-less Inv-loop μ-loop
 loop-less c = omega arith
@@ -92,7 +96,7 @@ loop-again c =
       ready = rw add-one (e .ready);
       far = e .far ∙ l .loop .inv .far;
       passed = below-more (λ (x : ℕ). (y : ℕ) → Wrong lone (triangles cs) x y → ⊥) (l .loop .u) (l .loop .inv .passed)
-          (none-at cs (s .args .points) (s .pre .thirds) (s .pre .below) lone (l .loop .u) (d .smallest-end .result) (e .least) (c .if1 .left));
+          (none-at cs (s .args .points) (s .pre .0 .thirds) (s .pre .0 .below) lone (l .loop .u) (d .smallest-end .result) (e .least) (c .if1 .left));
     }
 
 same-length-2 : tie.Need-same-length-2 Inv-loop μ-loop
@@ -104,7 +108,7 @@ returns-2 c =
     let s = start l in
     record {
       far = l .loop .inv .far ∙ prepared l .prepare .ensures .far;
-      first = unfold IsFirst in none-below (now (s .args .corners)) (s .args .points) (s .pre .thirds) (s .pre .below) (s .args .lone) (λ x h. l .loop .inv .passed x (omega arith));
+      first = unfold IsFirst in none-below (now (s .args .corners)) (s .args .points) (s .pre .0 .thirds) (s .pre .0 .below) (s .args .lone) (λ x h. l .loop .inv .passed x (omega arith));
     }
 
 pub first-side-spec : {M : Type 1} → statement M

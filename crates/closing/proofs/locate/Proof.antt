@@ -1,50 +1,109 @@
--- `closing::locate` meets its contract: what is found is what `finding` computes, and the words are cleared.
-use Prim.Native.Nat.{_+_, _*_, _/_, _≤_}
-use mathlib.Core.Path.{_≡_, ap, _∙_}
+-- `closing::locate` meets its contract: no side that is sought starts below the corner, and where there is none at all the corner is split (`Locating`).
+use mathlib.Core.Path.{refl, sym, _∙_}
+use mathlib.Core.Bool.{true, false}
 use native.Mathlib.Omega.{arith}
-use lib.ListN.{length, replicate, drop}
 use denote.Ref.{now}
 use borrow.Author.Needs.{needs}
 use Rattle.surface.specs.Triangle.{triangles}
-use Rattle.surface.proofs.Findings.{finds-finding}
-use Rattle.closing.specs.Closing.{needed}
-use Rattle.closing.specs.Stages.{used}
-use Rattle.closing.proofs.Whole.{far-on, zeroed-used}
+use Rattle.closing.specs.Locating.{Wrong}
+use Rattle.closing.proofs.Whole.{all-ringed, lent-again}
+use Rattle.closing.proofs.Locating.{none-before, first-found, first-none, finds-repeated, finds-lone, paired-of, finds-split, finds-closed}
 use Rattle.closing.proofs.locate.Statement.{statement}
 use Rattle.closing.proofs.locate.Tie as tie
 
-search-requires : tie.Need-search-requires
-search-requires c κs = search needs
+returns : tie.Need-returns
+returns c =
+    let s = c .before .before .before in
+    record { far = refl; finds = finds-closed (now (s .args .corners)) (all-ringed _ _ _ (s .pre .0) (s .pre .1) (omega (arith, c .if1 .taken))) }
 
-mul-clear : tie.Need-mul-clear
-mul-clear c = search needs
+first-side-requires : tie.Need-first-side-requires
+first-side-requires c κs = let s = c .before .before .before .before in (s .pre .0, (s .pre .1 .within, none-before _ (s .pre .0 .thirds) false (s .pre .1)))
 
-mul-clear-2 : tie.Need-mul-clear-2
-mul-clear-2 c = search needs
-
-add-clear : tie.Need-add-clear
-add-clear c = search needs
-
-clear-requires : tie.Need-clear-requires
-clear-requires c κs = search needs
+enum-known-from : tie.Need-enum-known-from
+enum-known-from c = search needs
 
 same-length : tie.Need-same-length
 same-length c = search needs
 
-returns : tie.Need-returns
-returns c =
-    let k = c .before .before in
-    let l = k .before .before .before .before in
-    let s = l .before .before .before .before in
-    let cs = now (s .args .corners) in
-    let p = s .args .points in
-    let m : length cs / 3 * 32 + p * 16 ≡ needed cs p = omega arith in
-    let few : used cs p ≤ needed cs p = omega (arith, s .pre .thirds) in
+-- the sides that are repeated were sought; then those that are lone
+abbrev repeated : tie.After-enum-told → tie.After-first-side
+repeated t = t .before .before .before .before
+
+abbrev lone : tie.After-enum-told2 → tie.After-first-side2
+lone t = t .before .before .before .before
+
+abbrev start : tie.After-first-side → tie.Start
+start f = f .before .before .before .before .before
+
+returns-2 : tie.Need-returns-2
+returns-2 c =
+    let f = c .before .before .before .before .before in
+    let e = f .first-side .ensures in
+    record { far = e .far; finds = finds-repeated (now (start f .args .corners)) (first-found (c .before .from .given .1) (e .first)) }
+
+enum-told : tie.Need-enum-told
+enum-told c = search needs
+
+first-side-requires-2 : tie.Need-first-side-requires-2
+first-side-requires-2 c κs =
+    let f = repeated (c .before) in
+    let s = start f in
+    (lent-again (f .first-side .kept .1 .1 .1 .1 .0) (s .pre .0), (s .pre .1 .within, none-before _ (s .pre .0 .thirds) true (s .pre .1)))
+
+enum-known-from-2 : tie.Need-enum-known-from-2
+enum-known-from-2 c = search needs
+
+same-length-2 : tie.Need-same-length-2
+same-length-2 c = search needs
+
+returns-3 : tie.Need-returns-3
+returns-3 c =
+    let g = c .before .before .before .before .before in
+    let t = g .before .before in
+    let f = repeated t in
+    let e = g .first-side2 .ensures in
     record {
-      answer = finds-finding (triangles cs) (l .search .result) (l .search .ensures .finds);
-      zeroed = zeroed-used cs p (now (s .args .work)) (l .search .last .1 .1 .0) (k .clear .last .0) (length cs / 3 * 32 + p * 16) m
-          (far-on (used cs p) (needed cs p) (l .search .last .1 .1 .0) (now (s .args .work)) few (l .search .ensures .far)) (k .clear .ensures);
+      far = e .far ∙ f .first-side .ensures .far;
+      finds = finds-lone (now (start f .args .corners)) (first-none (Wrong false (triangles (now (start f .args .corners)))) (t .enum-told .given .1) (f .first-side .ensures .first)) (first-found (c .before .from2 .given .1) (e .first));
+    }
+
+enum-told-2 : tie.Need-enum-told-2
+enum-told-2 c = search needs
+
+cast-corner : tie.Need-cast-corner
+cast-corner c = let s = start (repeated (lone c .before .before)) in omega (arith, s .pre .1 .within, s .pre .0 .points)
+
+same-length-3 : tie.Need-same-length-3
+same-length-3 c = search needs
+
+returns-4 : tie.Need-returns-4
+returns-4 c =
+    let g = lone c in
+    let t = g .before .before in
+    let f = repeated t in
+    let s = start f in
+    let cs = now (s .args .corners) in
+    let paired = paired-of cs (first-none (Wrong false (triangles cs)) (t .enum-told .given .1) (f .first-side .ensures .first)) (first-none (Wrong true (triangles cs)) (c .enum-told2 .given .1) (g .first-side2 .ensures .first)) in
+    record {
+      far = g .first-side2 .ensures .far ∙ f .first-side .ensures .far;
+      finds = finds-split cs (s .args .points) (s .pre .0 .thirds) paired (s .args .v) (s .pre .1) (omega (arith, s .pre .1 .within, f .before .before .if1 .left));
     }
 
 pub locate-spec : {M : Type 1} → statement M
-locate-spec = tie.close (tie.spec search-requires mul-clear mul-clear-2 add-clear clear-requires same-length returns)
+locate-spec =
+    tie.close
+    (tie.spec
+    returns
+    first-side-requires
+    enum-known-from
+    same-length
+    returns-2
+    enum-told
+    first-side-requires-2
+    enum-known-from-2
+    same-length-2
+    returns-3
+    enum-told-2
+    cast-corner
+    same-length-3
+    returns-4)

@@ -46,8 +46,8 @@ same-length c = search needs
 returns-5 : tie.Need-returns-5
 returns-5 c = search needs
 
-closed-oriented-manifold-requires : tie.Need-closed-oriented-manifold-requires
-closed-oriented-manifold-requires c κs =
+finding-requires : tie.Need-finding-requires
+finding-requires c κs =
     let g = c .before .before .before .before in
     let t = g .before .before in
     let e = t .before .before in
@@ -59,20 +59,17 @@ closed-oriented-manifold-requires c κs =
       room = omega (arith, e .if4 .left, g .closed-surface .kept .1 .1 .0);
     }
 
+found-requires : tie.Need-found-requires
+found-requires c κs = search needs
+
 same-length-2 : tie.Need-same-length-2
 same-length-2 c = search needs
 
 returns-6 : tie.Need-returns-6
 returns-6 c = search needs
 
-same-length-3 : tie.Need-same-length-3
-same-length-3 c = search needs
-
 returns-7 : tie.Need-returns-7
 returns-7 c = search needs
-
-returns-8 : tie.Need-returns-8
-returns-8 c = search needs
 
 pub judged-spec : {M : Type 1} → statement M
 judged-spec =
@@ -89,9 +86,8 @@ judged-spec =
     closed-surface-requires
     same-length
     returns-5
-    closed-oriented-manifold-requires
+    finding-requires
+    found-requires
     same-length-2
     returns-6
-    same-length-3
-    returns-7
-    returns-8)
+    returns-7)

@@ -1,4 +1,4 @@
--- `closing::first_split` meets its contract: at the loop's head the corners below v are fine.
+-- `closing::first_unringed` meets its contract: at the loop's head the corners below v are fine.
 use Prim.Native.Nat.{ℕ, _-_, _≤_, _<_}
 use mathlib.Core.Path.{_≡_, refl, _∙_}
 use mathlib.Core.List.{List}
@@ -8,28 +8,30 @@ use lib.ListN.{length, drop}
 use denote.Ref.{now}
 use borrow.Author.Count.{below-more}
 use Rattle.halfedges.proofs.Fine.{Fine}
+use Rattle.halfedges.proofs.Whole.{Enough}
 use Rattle.closing.specs.Stages.{used, Ready}
-use Rattle.closing.proofs.first_split.Statement.{statement}
-use Rattle.closing.proofs.first_split.Tie as tie
+use Rattle.closing.proofs.first_unringed.Statement.{statement}
+use Rattle.closing.proofs.first_unringed.Tie as tie
 
-record Going (c : List ℕ) (p : ℕ) (w₀ w : List ℕ) (v : ℕ) : Type 0 where
+record Going (c : List ℕ) (p m : ℕ) (w₀ w : List ℕ) (v : ℕ) : Type 0 where
   low : v ≤ p
   size : length w ≡ length w₀
   ready : Ready c p w v
   far : drop (used c p) w ≡ drop (used c p) w₀
   fine : (u : ℕ) → u < v → Fine c u
+  more : (u : ℕ) → u < v → Enough c m u
 
 abbrev Inv-loop : tie.InvT-loop
-Inv-loop corners points work₀ v₀ work v = Going corners points work₀ work v
+Inv-loop corners points least work₀ v₀ work v = Going corners points least work₀ work v
 
 abbrev μ-loop : tie.MeasureT-loop
-μ-loop corners points work₀ v₀ work v = points - v
+μ-loop corners points least work₀ v₀ work v = points - v
 
 prepare-requires : tie.Need-prepare-requires Inv-loop μ-loop
-prepare-requires c κs = c .before .before .before .pre
+prepare-requires c κs = c .before .before .before .pre .0
 
 loop-holds : tie.Need-loop-holds Inv-loop μ-loop
-loop-holds c = record { low = omega arith; size = refl; ready = c .before .before .prepare .ensures .ready; far = refl; fine = λ u l. absurd (omega arith) }
+loop-holds c = record { low = omega arith; size = refl; ready = c .before .before .prepare .ensures .ready; far = refl; fine = λ u l. absurd (omega arith); more = λ u l. absurd (omega arith) }
 
 abbrev prepared : tie.At-loop Inv-loop μ-loop → tie.After-prepare Inv-loop μ-loop
 prepared l = l .before .before .before
@@ -44,10 +46,10 @@ abbrev in-loop : tie.After-slice-known3 Inv-loop μ-loop → tie.In-loop Inv-loo
 in-loop c = asked c .before .before
 
 corner-ringed-requires : tie.Need-corner-ringed-requires Inv-loop μ-loop
-corner-ringed-requires c κs = (c .before .before .loop .inv .ready, (c .before .loop-test .taken, omega arith))
+corner-ringed-requires c κs = (c .before .before .loop .inv .ready, (c .before .loop-test .taken, start (c .before .before) .pre .1))
 
 add-v : tie.Need-add-v Inv-loop μ-loop
-add-v c = let l = in-loop (c .before) .before in omega (arith, start l .pre .points)
+add-v c = let l = in-loop (c .before) .before in omega (arith, start l .pre .0 .points)
 
 loop-less : tie.Need-loop-less Inv-loop μ-loop
 loop-less c = omega arith
@@ -64,6 +66,7 @@ loop-again c =
       ready = rw add-one (e .ready);
       far = e .far ∙ l .loop .inv .far;
       fine = below-more (Fine (now (start l .args .corners))) (l .loop .v) (l .loop .inv .fine) (e .yea (c .if1 .taken));
+      more = below-more (Enough (now (start l .args .corners)) (start l .args .least)) (l .loop .v) (l .loop .inv .more) (e .more (c .if1 .taken));
     }
 
 same-length : tie.Need-same-length Inv-loop μ-loop
@@ -78,11 +81,7 @@ returns c =
     let e = d .corner-ringed .ensures in
     record {
       far = e .far ∙ l .loop .inv .far ∙ prepared l .prepare .ensures .far;
-      least = record {
-        within = l .loop .inv .low;
-        holds = λ _ fine. e .nay (c .if1 .left) fine (λ q. q);
-        before = λ y h n. n (l .loop .inv .fine y h);
-      };
+      first = record { within = l .loop .inv .low; fine = l .loop .inv .fine; more = l .loop .inv .more; nay = λ _. e .nay (c .if1 .left) };
     }
 
 same-length-2 : tie.Need-same-length-2 Inv-loop μ-loop
@@ -93,15 +92,16 @@ returns-2 c =
     let l = c .before in
     record {
       far = l .loop .inv .far ∙ prepared l .prepare .ensures .far;
-      least = record {
+      first = record {
         within = omega arith;
-        holds = λ h. absurd (omega arith);
-        before = λ y h n. n (l .loop .inv .fine y (omega arith));
+        fine = λ u h. l .loop .inv .fine u (omega arith);
+        more = λ u h. l .loop .inv .more u (omega arith);
+        nay = λ h. absurd (omega arith);
       };
     }
 
-pub first-split-spec : {M : Type 1} → statement M
-first-split-spec =
+pub first-unringed-spec : {M : Type 1} → statement M
+first-unringed-spec =
     tie.close
     (tie.spec
     Inv-loop
