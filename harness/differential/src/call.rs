@@ -1,5 +1,5 @@
 //! Every list that a call is lent, what it answers, and the comparison of two calls.
-use crate::surfaces::Surface;
+use crate::{questions::No, surfaces::Surface};
 
 /// The lists of a call and its answer, before it or after it. A list that the function does not
 /// take stays as it is.
@@ -31,6 +31,8 @@ pub struct Call {
     pub numbers: [f64; 2],
     /// What is left, and how many.
     pub answer: [u32; 3],
+    /// Where the surface is open.
+    pub place: [u32; 2],
 }
 
 impl Call {
@@ -42,15 +44,22 @@ impl Call {
             work: filling(work_words),
             numbers: [f64::NAN, -1.5],
             answer: [7, 8, 9],
+            place: [10, 11],
             ..Self::default()
         }
     }
 
-    /// Sets the number, and the work words as document 01 has them after such an end: as lent
-    /// after 1 to 3, else 0 as far as they are needed. `surface` is still as lent.
-    pub fn end(&mut self, number: u32) {
-        self.number = number;
-        if !(1..=3).contains(&number) {
+    /// Sets number, place and work words as they are after such an end. `surface` is still as lent.
+    pub fn end(&mut self, asked: Result<(), No>) {
+        let No { number, place } = asked.err().unwrap_or_default();
+        (self.number, self.place) = (number, place);
+        self.clear_work();
+    }
+
+    /// Sets the work words as document 01 has them after the number: as lent after 1 to 3, else 0 as
+    /// far as they are needed.
+    pub fn clear_work(&mut self) {
+        if !(1..=3).contains(&self.number) {
             self.work[..self.surface.work_words()].fill(0);
         }
     }
@@ -58,6 +67,7 @@ impl Call {
     /// The first difference between this call and what it must be.
     pub fn difference(&self, wanted: &Self) -> Result<(), String> {
         same("number", &[self.number], &[wanted.number])?;
+        same("place", &self.place, &wanted.place)?;
         same("points", &self.surface.points, &wanted.surface.points)?;
         same("corners", &self.surface.corners, &wanted.surface.corners)?;
         same("labels", &self.surface.labels, &wanted.surface.labels)?;

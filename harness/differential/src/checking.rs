@@ -2,7 +2,7 @@
 use crate::{
     call::Call,
     damage,
-    questions::{self, ask},
+    questions::{self, No, ask},
     random::Random,
     surfaces::{self, Surface},
 };
@@ -12,13 +12,13 @@ use lanovishel::raw;
 pub fn model(before: &Call) -> Call {
     let verdict = measured(&before.surface, before.work.len());
     let mut after = before.clone();
-    after.end(verdict.err().unwrap_or(0));
+    after.end(verdict.map(|_| ()));
     after.numbers = verdict.unwrap_or([0.0; 2]);
     after
 }
 
-/// Quality and volume, or the number of the refusal.
-fn measured(surface: &Surface, work_words: usize) -> Result<[f64; 2], u32> {
+/// Quality and volume, or the refusal.
+fn measured(surface: &Surface, work_words: usize) -> Result<[f64; 2], No> {
     questions::first(surface, work_words)?;
     let (points, triangles) = (surface.points(), surface.triangles());
     if triangles.is_empty() {
@@ -82,6 +82,7 @@ pub fn mesh(surface: &Surface) -> original::Mesh {
 
 /// Holds the model to the original where the original has an answer: it knows neither lists that
 /// are not in threes nor limits nor work words, and panics where there are triangles and no points.
+/// Its one answer to an open surface is what 31, 32 and 33 mean together.
 pub fn compare_with_original(wanted: &Call) -> Result<(), String> {
     let surface = &wanted.surface;
     let panics = surface.points.is_empty() && !surface.corners.is_empty();
@@ -97,6 +98,7 @@ pub fn compare_with_original(wanted: &Call) -> Result<(), String> {
     };
     let model = match wanted.number {
         0 => Ok(wanted.numbers.map(f64::to_bits)),
+        31..=33 => Err(7),
         number => Err(number),
     };
     if theirs == model {
@@ -138,6 +140,7 @@ pub fn ours(before: &Call) -> Call {
             after.work.as_mut_ptr(),
             after.work.len(),
             &mut after.numbers,
+            &mut after.place,
         )
     };
     after

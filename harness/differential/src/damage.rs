@@ -1,11 +1,15 @@
 //! Damage to a surface, a kind at a time. What it leads to is the model's to say.
-use crate::{questions::MOST, random::Random, surfaces::Surface};
+use crate::{
+    questions::MOST,
+    random::Random,
+    surfaces::{Surface, octahedron},
+};
 
 /// A kind of damage; it meets a surface of at least four whole triangles.
 type Damage = fn(&mut Surface, &mut Random);
 
 /// Every kind of damage.
-const KINDS: [Damage; 19] = [
+const KINDS: [Damage; 20] = [
     value_too_many,
     corner_too_many,
     label_gone,
@@ -21,11 +25,32 @@ const KINDS: [Damage; 19] = [
     triangle_turned_round,
     corner_replaced,
     two_corners_made_one,
+    piece_touching_at_a_corner,
     triangles_exchange_a_corner,
     all_turned_round,
     all_flat,
     one_coordinate_far_away,
 ];
+
+/// What opens a surface and leaves its lists fit and its triangles in shape; from 2 on a directed
+/// side is seldom repeated, and from 3 on each has its reverse.
+const INJURIES: [Damage; 5] = [
+    triangle_twice,
+    triangle_turned_round,
+    triangle_gone,
+    two_corners_made_one,
+    piece_touching_at_a_corner,
+];
+
+/// Opens a surface at one to five places.
+pub fn injure(surface: &mut Surface, random: &mut Random) {
+    let kinds = &INJURIES[random.below(INJURIES.len())..];
+    for _ in 0..random.within(1, 5) {
+        if surface.triangle_count() > 1 {
+            random.pick(kinds)(surface, random);
+        }
+    }
+}
 
 /// Damages a surface up to `times` times, as long as its lists still fit one another.
 pub fn some(surface: &mut Surface, random: &mut Random, times: usize) {
@@ -148,11 +173,18 @@ fn corner_replaced(surface: &mut Surface, random: &mut Random) {
 
 fn two_corners_made_one(surface: &mut Surface, random: &mut Random) {
     let [a, b] = [any_corner(surface, random), any_corner(surface, random)];
-    surface
-        .corners
-        .iter_mut()
-        .filter(|corner| **corner == b)
-        .for_each(|corner| *corner = a);
+    surface.rename(b, a);
+}
+
+/// A further piece, with the label of the triangle at whose corner it is.
+fn piece_touching_at_a_corner(surface: &mut Surface, random: &mut Random) {
+    let place = any_place(surface, random);
+    let (corner, first) = (surface.corners[place], surface.point_count() as u32);
+    let mut piece = octahedron();
+    piece.labels.fill(surface.labels[place / 3]);
+    piece.shift(point(surface, corner));
+    surface.join(&piece);
+    surface.rename(first, corner);
 }
 
 fn triangles_exchange_a_corner(surface: &mut Surface, random: &mut Random) {

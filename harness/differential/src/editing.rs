@@ -4,7 +4,7 @@ use crate::{
     checking::some_work_words,
     damage,
     history::{History, Pair},
-    questions::{self, ask},
+    questions::{self, No, ask},
     random::Random,
     surfaces::{self, Surface},
 };
@@ -14,7 +14,7 @@ use lanovishel::raw;
 pub fn model(before: &Call) -> Call {
     let mut after = before.clone();
     let asked = questions(before);
-    after.end(asked.err().unwrap_or(0));
+    after.end(asked);
     after.answer[..2].fill(0);
     if asked.is_err() {
         return after;
@@ -30,7 +30,7 @@ pub fn model(before: &Call) -> Call {
     after
 }
 
-fn questions(call: &Call) -> Result<(), u32> {
+fn questions(call: &Call) -> Result<(), No> {
     questions::editing(&call.surface, call.work.len())?;
     ask(call.entries.len() == 3 * call.verdicts.len(), 15)
 }
@@ -74,6 +74,7 @@ pub fn ours(before: &Call) -> Call {
             after.journal.as_mut_ptr(),
             after.journal.len(),
             after.answer.as_mut_ptr().cast(),
+            &mut after.place,
         )
     };
     after
@@ -197,12 +198,13 @@ fn some_entry(history: &History, points: u32, random: &mut Random) -> [u32; 3] {
 /// Damage of any kind, those among it that only these questions look for.
 pub fn spoil(surface: &mut Surface, random: &mut Random) {
     let triangle = random.below(surface.triangle_count());
-    match random.below(8) {
+    match random.below(9) {
         0 => surface.labels[triangle] = random.pick(&[8, 9, 128, 255]),
         1 => surface.labels[triangle] ^= 1,
         2 => surface.join(&surfaces::pillow()),
         3 => damage::grow_to_the_limit(surface, random),
         4 => {}
+        5 => damage::injure(surface, random),
         _ => damage::some(surface, random, 2),
     }
 }

@@ -3,7 +3,7 @@ use crate::{
     call::Call,
     checking::{mesh, some_work_words},
     editing::{label, scramble, set_then_0, spoil},
-    questions::{self, ask},
+    questions::{self, No, ask},
     random::Random,
     surfaces::{self, Surface},
 };
@@ -29,7 +29,7 @@ pub fn model(before: &Call) -> Option<(Call, Story)> {
     let mut after = before.clone();
     let mut story = Story::default();
     let asked = questions(before);
-    after.end(asked.err().unwrap_or(0));
+    after.end(asked);
     after.answer = [0; 3];
     if asked.is_err() {
         return Some((after, story));
@@ -95,7 +95,7 @@ pub fn told(call: &Call) -> Improving {
     }
 }
 
-fn questions(call: &Call) -> Result<(), u32> {
+fn questions(call: &Call) -> Result<(), No> {
     questions::editing(&call.surface, call.work.len())?;
     let [lower, upper] = call.levels;
     let sheet = call.coefficients.len() <= 64
@@ -149,6 +149,7 @@ pub fn ours(before: &Call) -> Call {
             &after.bounds,
             after.rounds,
             &mut after.answer,
+            &mut after.place,
         )
     };
     after

@@ -64,6 +64,14 @@ impl Surface {
         self.labels.extend(&other.labels);
     }
 
+    /// Puts the corner `to` in the place of `from` wherever a triangle names that.
+    pub fn rename(&mut self, from: u32, to: u32) {
+        self.corners
+            .iter_mut()
+            .filter(|corner| **corner == from)
+            .for_each(|corner| *corner = to);
+    }
+
     /// Turns every triangle round.
     pub fn reverse(&mut self) {
         self.corners.chunks_exact_mut(3).for_each(|t| t.swap(1, 2));
@@ -129,6 +137,17 @@ pub fn tetrahedron() -> Surface {
         &[[0., 0., 0.], [1., 0., 0.], [0., 1., 0.], [0., 0., 1.]],
         &[[0, 2, 1], [0, 1, 3], [0, 3, 2], [1, 2, 3]],
     )
+}
+
+/// Two tetrahedra that share corner 0 and nothing else.
+pub fn touching() -> Surface {
+    let mut surface = tetrahedron();
+    let mut mirrored = tetrahedron();
+    mirrored.scale([-1.0; 3]);
+    mirrored.reverse();
+    surface.join(&mirrored);
+    surface.rename(4, 0);
+    surface
 }
 
 /// The octahedron of document 01.

@@ -14,18 +14,18 @@ pub struct Format {
     outcome: fn(&mut Words, &mut Call),
 }
 
-/// Points, corners, labels, how many work words; then number, quality, volume.
+/// Points, corners, labels, how many work words; then number, place, quality, volume.
 pub const CHECK: Format = Format {
     inputs: |words, call| words.surface_and_work(call),
     outcome: |words, call| {
-        words.word(&mut call.number);
+        words.number_and_place(call);
         call.numbers.iter_mut().for_each(|x| words.float(x));
     },
 };
 
 /// Points, corners, labels, how many work words, entries, how many verdict words, how many
-/// journal words; then number, corners, labels, verdict words, journal, triangles left, edits in
-/// force.
+/// journal words; then number, place, corners, labels, verdict words, journal, triangles left, edits
+/// in force.
 pub const EDIT: Format = Format {
     inputs: |words, call| {
         words.surface_and_work(call);
@@ -34,7 +34,7 @@ pub const EDIT: Format = Format {
         words.length(&mut call.journal);
     },
     outcome: |words, call| {
-        words.word(&mut call.number);
+        words.number_and_place(call);
         words.list(&mut call.surface.corners, Words::word);
         words.list(&mut call.surface.labels, Words::byte);
         words.list(&mut call.verdicts, Words::word);
@@ -44,7 +44,7 @@ pub const EDIT: Format = Format {
 };
 
 /// Points, corners, labels, how many work words, coefficients, powers, the two levels, the six
-/// bounds, rounds; then number, points, corners, labels, points left, triangles left, flips.
+/// bounds, rounds; then number, place, points, corners, labels, points left, triangles left, flips.
 pub const IMPROVE: Format = Format {
     inputs: |words, call| {
         words.surface_and_work(call);
@@ -55,7 +55,7 @@ pub const IMPROVE: Format = Format {
         words.word(&mut call.rounds);
     },
     outcome: |words, call| {
-        words.word(&mut call.number);
+        words.number_and_place(call);
         words.list(&mut call.surface.points, Words::float);
         words.list(&mut call.surface.corners, Words::word);
         words.list(&mut call.surface.labels, Words::byte);
@@ -111,6 +111,11 @@ impl Words<'_> {
         self.list(&mut call.surface.labels, Self::byte);
         self.length(&mut call.work);
     }
+
+    fn number_and_place(&mut self, call: &mut Call) {
+        self.word(&mut call.number);
+        call.place.iter_mut().for_each(|x| self.word(x));
+    }
 }
 
 /// The line of a vector.
@@ -134,7 +139,7 @@ pub fn replay(format: Format, text: &str, ours: fn(&Call) -> Call) -> Result<usi
         let mut wanted = before.clone();
         (format.outcome)(&mut words, &mut wanted);
         wanted.work = before.work.clone();
-        wanted.end(wanted.number);
+        wanted.clear_work();
         ours(&before)
             .difference(&wanted)
             .map_err(|d| format!("vector {number}: {d}"))?;

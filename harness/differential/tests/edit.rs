@@ -5,7 +5,7 @@ use differential::{
     editing, report,
     surfaces::{Surface, octahedron, pillow, tetrahedron},
 };
-use lanovishel::{Edited, Refused};
+use lanovishel::{Edited, Refusal};
 
 #[test]
 fn random_runs() {
@@ -22,7 +22,7 @@ fn random_runs() {
     println!("{runs} runs of editing, {} entries", words.len());
     report(
         "number",
-        &[0, 1, 2, 3, 4, 5, 7, 9, 10, 11, 12, 15],
+        &[0, 1, 2, 3, 4, 5, 9, 10, 11, 12, 15, 31, 32, 33],
         &numbers,
         runs / 1000,
     );
@@ -39,7 +39,7 @@ fn edit(
     surface: &mut Surface,
     entries: &[[u32; 3]],
     journal_words: usize,
-) -> (Result<Edited, Refused>, Vec<u32>) {
+) -> (Result<Edited, Refusal>, Vec<u32>) {
     let mut work = vec![1; surface.work_words()];
     let mut verdicts = vec![99; entries.len()];
     let mut journal = vec![99; journal_words];
@@ -66,10 +66,10 @@ fn on_octahedron(entries: &[[u32; 3]]) -> (Vec<u32>, Vec<[u32; 3]>) {
 
 #[test]
 fn starred_refusals() {
-    assert_eq!(edit(&mut pillow(), &[], 0).0, Err(Refused(12)));
+    assert_eq!(edit(&mut pillow(), &[], 0).0, Err(Refusal::SameCorners));
     let mut mixed = tetrahedron();
     mixed.labels[1] = 1;
-    assert_eq!(edit(&mut mixed, &[], 0).0, Err(Refused(11)));
+    assert_eq!(edit(&mut mixed, &[], 0).0, Err(Refusal::OpposedLabels));
 }
 
 #[test]

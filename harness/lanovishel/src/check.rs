@@ -1,5 +1,5 @@
 //! Checking a surface.
-use crate::{Refused, raw};
+use crate::{Refusal, raw};
 
 /// What checking says of an accepted surface.
 #[derive(Clone, Copy, Debug, PartialEq)]
@@ -30,21 +30,23 @@ pub const fn work_words(points: usize, triangles: usize) -> usize {
 /// let found = lanovishel::check(&points, &corners, &[0; 4], &mut work).unwrap();
 /// assert_eq!(found.volume, 1.0 / 6.0);
 ///
-/// let open = lanovishel::check(&points, &corners[..9], &[0; 3], &mut work);
-/// assert_eq!(open, Err(lanovishel::Refused(7)));
+/// // Without the last triangle nothing runs from 3 to 1.
+/// let open = lanovishel::check(&points, &corners[..9], &[0; 3], &mut work).unwrap_err();
+/// assert_eq!(open, lanovishel::Refusal::Lone { from: 1, to: 3 });
+/// assert_eq!(open.to_string(), "the directed side from 1 to 3 has no reverse (32)");
 /// ```
 ///
 /// # Errors
-/// [`Refused`] with a number from 1 to 8.
+/// [`Refusal`], by its number 1 to 6, 8, or 31 to 33.
 pub fn check(
     points: &[f64],
     corners: &[u32],
     labels: &[u8],
     work: &mut [u32],
-) -> Result<Measured, Refused> {
-    let mut numbers = [0.0; 2];
-    // SAFETY: each pointer comes with its own slice's length, and `work` and `numbers` are
-    // borrowed alone.
+) -> Result<Measured, Refusal> {
+    let (mut numbers, mut place) = ([0.0; 2], [0; 2]);
+    // SAFETY: each pointer comes with its own slice's length, and what is written is borrowed
+    // alone.
     let number = unsafe {
         raw::lanovishel_check(
             points.as_ptr(),
@@ -56,9 +58,10 @@ pub fn check(
             work.as_mut_ptr(),
             work.len(),
             &mut numbers,
+            &mut place,
         )
     };
-    Refused::unless_0(number)?;
+    Refusal::unless_0(number, place)?;
     let [quality, volume] = numbers;
     Ok(Measured { quality, volume })
 }

@@ -1,5 +1,5 @@
 //! Editing a surface by a run of entries.
-use crate::{Refused, raw};
+use crate::{Refusal, raw};
 
 /// What an edit run leaves.
 #[derive(Clone, Copy, Debug, PartialEq, Eq)]
@@ -44,10 +44,16 @@ pub struct Edited {
 /// assert_eq!(run, Ok(lanovishel::Edited { triangles: 8, in_force: 0 }));
 /// assert_eq!(verdicts, [0, 25, 0]);
 /// assert_eq!(corners, octahedron);
+///
+/// // Without the last triangle nothing runs from 5 to 0.
+/// let open = lanovishel::edit(
+///     &points, &mut corners[..21], &mut labels[..7], &mut work, &[], &mut [], &mut journal,
+/// );
+/// assert_eq!(open, Err(lanovishel::Refusal::Lone { from: 0, to: 5 }));
 /// ```
 ///
 /// # Errors
-/// [`Refused`] with a number from 1 to 5, 7, 9 to 12, or 15.
+/// [`Refusal`], by its number 1 to 5, 9 to 12, 15, or 31 to 33.
 pub fn edit(
     points: &[f64],
     corners: &mut [u32],
@@ -56,8 +62,8 @@ pub fn edit(
     entries: &[u32],
     verdicts: &mut [u32],
     journal: &mut [u32],
-) -> Result<Edited, Refused> {
-    let mut answer = [0; 2];
+) -> Result<Edited, Refusal> {
+    let (mut answer, mut place) = ([0; 2], [0; 2]);
     // SAFETY: each pointer comes with its own slice's length, and what is written is borrowed
     // alone.
     let number = unsafe {
@@ -77,9 +83,10 @@ pub fn edit(
             journal.as_mut_ptr(),
             journal.len(),
             &mut answer,
+            &mut place,
         )
     };
-    Refused::unless_0(number)?;
+    Refusal::unless_0(number, place)?;
     let [triangles, in_force] = answer;
     Ok(Edited {
         triangles,

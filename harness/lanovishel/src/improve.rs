@@ -1,5 +1,5 @@
 //! Improving the triangles of a surface.
-use crate::{Refused, raw};
+use crate::{Refusal, raw};
 
 /// What a surface is a part of: the levels of a field, within a box.
 ///
@@ -46,6 +46,11 @@ pub struct Improved {
 ///     levels: [f64::NEG_INFINITY, 1.],
 ///     bounds: [-2., -2., -2., 2., 2., 2.],
 /// };
+/// // Without the last triangle nothing runs from 5 to 0.
+/// let open = &mut corners[..27];
+/// let refused = lanovishel::improve(&mut points, open, &mut [0; 9], &mut work, &field, 1);
+/// assert_eq!(refused, Err(lanovishel::Refusal::Lone { from: 0, to: 5 }));
+///
 /// let left = lanovishel::improve(&mut points, &mut corners, &mut [0; 10], &mut work, &field, 1);
 /// assert_eq!(left, Ok(lanovishel::Improved { points: 6, triangles: 8, flips: 0 }));
 /// assert_eq!(corners[..3], [0, 1, 2]);
@@ -53,7 +58,7 @@ pub struct Improved {
 /// ```
 ///
 /// # Errors
-/// [`Refused`] with a number from 1 to 5, 7, or 9 to 14.
+/// [`Refusal`], by its number 1 to 5, 9 to 14, or 31 to 33.
 pub fn improve(
     points: &mut [f64],
     corners: &mut [u32],
@@ -61,8 +66,8 @@ pub fn improve(
     work: &mut [u32],
     field: &Field,
     rounds: u32,
-) -> Result<Improved, Refused> {
-    let mut answer = [0; 3];
+) -> Result<Improved, Refusal> {
+    let (mut answer, mut place) = ([0; 3], [0; 2]);
     // SAFETY: each pointer comes with its own slice's length, and what is written is borrowed
     // alone.
     let number = unsafe {
@@ -83,9 +88,10 @@ pub fn improve(
             &field.bounds,
             rounds,
             &mut answer,
+            &mut place,
         )
     };
-    Refused::unless_0(number)?;
+    Refusal::unless_0(number, place)?;
     let [points, triangles, flips] = answer;
     Ok(Improved {
         points,

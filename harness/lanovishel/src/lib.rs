@@ -5,7 +5,7 @@
 mod check;
 mod edit;
 mod improve;
-mod refused;
+mod refusal;
 mod root;
 
 pub mod raw;
@@ -13,5 +13,5 @@ pub mod raw;
 pub use check::{Measured, check, work_words};
 pub use edit::{Edited, edit};
 pub use improve::{Field, Improved, improve};
-pub use refused::Refused;
+pub use refusal::Refusal;
 pub use root::sqrt;

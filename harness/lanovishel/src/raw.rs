@@ -7,7 +7,7 @@ unsafe extern "C" {
     /// The square root; see [`crate::sqrt`].
     pub safe fn lanovishel_sqrt(x: f64) -> f64;
 
-    /// Questions 1 to 8; see [`crate::check`].
+    /// The verdict on a surface; see [`crate::check`].
     pub fn lanovishel_check(
         points: *const f64,
         point_values: usize,
@@ -18,6 +18,7 @@ unsafe extern "C" {
         work: *mut u32,
         work_words: usize,
         numbers: *mut [f64; 2],
+        place: *mut [u32; 2],
     ) -> u32;
 
     /// A run of entries; see [`crate::edit`].
@@ -37,6 +38,7 @@ unsafe extern "C" {
         journal: *mut u32,
         journal_words: usize,
         answer: *mut [u32; 2],
+        place: *mut [u32; 2],
     ) -> u32;
 
     /// Rounds of improving; see [`crate::improve`].
@@ -57,5 +59,6 @@ unsafe extern "C" {
         bounds: *const [f64; 6],
         rounds: u32,
         answer: *mut [u32; 3],
+        place: *mut [u32; 2],
     ) -> u32;
 }

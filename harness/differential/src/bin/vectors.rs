@@ -6,7 +6,7 @@ use differential::{
     random::Random,
     vectors::{self, Format},
 };
-use std::{env, fs, path::Path};
+use std::{collections::BTreeMap, env, fs, path::Path};
 
 /// The most points, and the most triangles, of a vector's surface.
 const MOST: usize = 32;
@@ -22,7 +22,7 @@ fn sample(
     call: fn(&mut Random) -> Call,
     model: impl Fn(&Call) -> Option<Call>,
 ) -> String {
-    let mut counts = [0; 16];
+    let mut counts = BTreeMap::new();
     let mut text = String::new();
     for seed in 1..=3_000 {
         let before = call(&mut Random::new(seed));
@@ -32,8 +32,9 @@ fn sample(
         }
         let after = model(&before).expect("vectors are made where the original is there");
         let most = if after.number == 0 { accepted } else { REFUSED };
-        if counts[after.number as usize] < most {
-            counts[after.number as usize] += 1;
+        let count = counts.entry(after.number).or_insert(0);
+        if *count < most {
+            *count += 1;
             text += &vectors::line(format, &before, &after);
         }
     }
