@@ -9,7 +9,9 @@ int main(void) {
     const uint8_t labels[] = {0, 0, 0, 0};
     uint32_t work[LANOVISHEL_WORK_WORDS(4, 4)];
     double numbers[2];
-    uint32_t verdict = lanovishel_check(points, 12, corners, 12, labels, 4, work, sizeof work / sizeof *work, numbers);
+    uint32_t place[2];
+    uint32_t verdict = lanovishel_check(points, 12, corners, 12, labels, 4, work, sizeof work / sizeof *work,
+                                        numbers, place);
     printf("verdict %u, quality %.17g, volume %.17g\n", verdict, numbers[0], numbers[1]);
     return verdict != 0;
 }

@@ -13,9 +13,9 @@ int main(void) {
     const uint32_t powers[] = {2, 0, 0, 0, 2, 0, 0, 0, 2};
     const double levels[] = {-1, 1};
     const double bounds[] = {-2, -2, -2, 2, 2, 2};
-    uint32_t answer[3];
+    uint32_t answer[3], place[2];
     uint32_t number = lanovishel_improve(points, 21, corners, 30, labels, 10, work, sizeof work / sizeof *work,
-                                         coefficients, 3, powers, 9, levels, bounds, 1, answer);
+                                         coefficients, 3, powers, 9, levels, bounds, 1, answer, place);
     printf("number %u, points %u, triangles %u, flips %u\n", number, answer[0], answer[1], answer[2]);
     return number != 0;
 }

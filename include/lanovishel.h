@@ -1,8 +1,12 @@
 /* Lanovishel for C: link liblanovishel.a, which `rt staticlib lanovishel` makes.
  *
  * A list is a pointer and a length. No function asks anything of its caller but that each pointer is valid
- * for its length and that no list that is written overlaps another: a bad call is answered with its number
- * and leaves every list as it was lent (the work words as document 01 says). */
+ * for its length and that no list that is written overlaps another. A call answers 0 where it is accepted, and
+ * else one of the numbers that docs/NUMBERS.md lists: it then leaves every list as it was lent (the work words
+ * as document 01 says).
+ *
+ * place says where a surface is open: after 31 and 32 the side from place[0] to place[1], after 33 the corner
+ * place[0], and place[1] is 0. After any other answer both are 0. */
 #ifndef LANOVISHEL_H
 #define LANOVISHEL_H
 
@@ -16,18 +20,17 @@
 double lanovishel_sqrt(double x);
 
 /* Checks a surface: points has three values a point, corners three corner numbers a triangle, labels one a
- * triangle. 0 where it is accepted, with its smallest quality and its volume in numbers; else the number of
- * the question that it fails, and numbers is 0. */
+ * triangle. Where it is accepted, numbers has its smallest quality and its volume; else numbers is 0. */
 uint32_t lanovishel_check(const double *points, size_t point_values,
                           const uint32_t *corners, size_t corner_numbers,
                           const uint8_t *labels, size_t label_count,
                           uint32_t *work, size_t work_words,
-                          double numbers[2]);
+                          double numbers[2], uint32_t place[2]);
 
 /* An edit run: entries of three words each, kind, a, b (1 flips side a b; 2 keeps a and removes b; 3 takes back
  * the last a edits, b is 0), one verdict word per entry, twelve journal words for each edit that may be in force.
- * 0 with triangles left and edits in force in answer; else the number of the question that the call fails, and
- * answer is 0. corners and labels then hold the surface that is left, then 0. */
+ * Where the call is accepted, answer has triangles left and edits in force, and corners and labels hold the
+ * surface that is left, then 0; else answer is 0. */
 uint32_t lanovishel_edit(const double *points, size_t point_values,
                          uint32_t *corners, size_t corner_numbers,
                          uint8_t *labels, size_t label_count,
@@ -35,15 +38,15 @@ uint32_t lanovishel_edit(const double *points, size_t point_values,
                          const uint32_t *entries, size_t entry_words,
                          uint32_t *verdicts, size_t verdict_words,
                          uint32_t *journal, size_t journal_words,
-                         uint32_t answer[2]);
+                         uint32_t answer[2], uint32_t place[2]);
 
 /* Improves a surface by rounds, at most 1,000: short sides of badly shaped triangles are collapsed, the points
  * numbered anew by first use, and sides flipped where that helps. The field sheet: up to 64 terms, each a
  * coefficient and the powers of x, y and z, 0 to 3; the lower level, which may be -infinity, and the upper;
  * bounds is the lower corner of a box within +-2^20, then the upper. A triangle of label 0 lies on the upper
  * level and one of 1 on the lower; 2 to 7 are the walls of the box at lower x, upper x, lower y and so on.
- * 0 with points left, triangles left and flips in answer; else the number of the question that the call fails,
- * and answer is 0. points, corners and labels then hold the surface that is left, then 0. */
+ * Where the call is accepted, answer has points left, triangles left and flips, and points, corners and labels
+ * hold the surface that is left, then 0; else answer is 0. */
 uint32_t lanovishel_improve(double *points, size_t point_values,
                             uint32_t *corners, size_t corner_numbers,
                             uint8_t *labels, size_t label_count,
@@ -51,6 +54,6 @@ uint32_t lanovishel_improve(double *points, size_t point_values,
                             const double *coefficients, size_t coefficient_count,
                             const uint32_t *powers, size_t power_count,
                             const double levels[2], const double bounds[6],
-                            uint32_t rounds, uint32_t answer[3]);
+                            uint32_t rounds, uint32_t answer[3], uint32_t place[2]);
 
 #endif

@@ -1,6 +1,6 @@
-//! Links the root of an earlier liblanovishel.a, which `LANOVISHEL_BEFORE` names, beside ours:
-//! its `lanovishel_sqrt` is called `sqrt_before`, and its other names are its own. Where none is
-//! named, the cfg `before` is not set.
+//! Links functions of an earlier liblanovishel.a, which `LANOVISHEL_BEFORE` names, beside ours: its
+//! `lanovishel_sqrt` is called `sqrt_before`, `lanovishel_check` is `check_before`, and its other
+//! names are its own. Where none is named, the cfg `before` is not set.
 use std::{
     env,
     path::{Path, PathBuf},
@@ -22,9 +22,14 @@ fn main() {
 }
 
 fn rename(archive: &Path, renamed: &Path) {
+    let names = ["sqrt", "check"].map(|name| {
+        [
+            format!("--redefine-sym=lanovishel_{name}={name}_before"),
+            format!("--keep-global-symbol={name}_before"),
+        ]
+    });
     let status = Command::new("objcopy")
-        .arg("--redefine-sym=lanovishel_sqrt=sqrt_before")
-        .arg("--keep-global-symbol=sqrt_before")
+        .args(names.concat())
         .args([archive, renamed])
         .status()
         .expect("objcopy is on the path");

@@ -1,9 +1,15 @@
 //! The judgement of closedness: what a check takes on a closed surface, less what it takes where the
 //! last triangle is degenerate, a call that does all the same but the judgement.
-use crate::table::{means, once};
-use differential::surfaces::{Surface, bipyramid, torus};
+use crate::table::{leasts, means, once};
+use differential::{
+    random::Random,
+    surfaces::{Surface, bipyramid, sphere, tetrahedron, torus},
+};
 
 const CALLS: u32 = 100;
+
+/// Checks a surface and gives the number.
+type Check = fn(&Surface, &mut [u32]) -> u32;
 
 /// Tori, and bipyramids, which have two corners of half the triangles each.
 pub fn table() {
@@ -17,13 +23,14 @@ pub fn table() {
     for around in [1_024, 4_096, 16_384] {
         measure("bipyramid", &bipyramid(around));
     }
+    #[cfg(before)]
+    before::table();
+    open_table();
 }
 
 fn measure(name: &str, surface: &Surface) {
-    let mut damaged = surface.clone();
-    let last = damaged.corners.len() - 1;
-    damaged.corners[last] = damaged.corners[last - 1];
-    let [whole, without] = means(CALLS, check(surface), check(&damaged));
+    let damaged = damaged(surface);
+    let [whole, without] = means(CALLS, time(surface, ours), time(&damaged, ours));
     let triangles = surface.triangle_count();
     let judgement = whole - without;
     println!(
@@ -32,14 +39,146 @@ fn measure(name: &str, surface: &Surface) {
     );
 }
 
-fn check(surface: &Surface) -> impl Fn() -> f64 {
+/// The surface with its last triangle degenerate.
+fn damaged(surface: &Surface) -> Surface {
+    let mut damaged = surface.clone();
+    let last = damaged.corners.len() - 1;
+    damaged.corners[last] = damaged.corners[last - 1];
+    damaged
+}
+
+fn time(surface: &Surface, check: Check) -> impl Fn() -> f64 {
+    once(
+        || vec![1; surface.work_words()],
+        move |work| check(surface, work),
+    )
+}
+
+fn ours(surface: &Surface, work: &mut [u32]) -> u32 {
     let Surface {
         points,
         corners,
         labels,
     } = surface;
-    once(
-        || vec![1; surface.work_words()],
-        |work| lanovishel::check(points, corners, labels, work),
-    )
+    match lanovishel::check(points, corners, labels, work) {
+        Ok(_) => 0,
+        Err(refusal) => refusal.number().get(),
+    }
+}
+
+/// What an answer of 31, 32 and 33 takes, set beside the judgement of the surface while it is closed:
+/// the least of so many calls, in turn. It is open at its last corners, where the search is longest.
+fn open_table() {
+    println!();
+    println!("| open | closed, µs | 31, µs | ratio | 32, µs | ratio | 33, µs | ratio |");
+    println!("|---|---|---|---|---|---|---|---|");
+    let mut shuffled = torus(128, 127);
+    shuffled.relist(&mut Random::new(1));
+    shuffled.renumber(&mut Random::new(1), 0);
+    measure_open("torus", torus(128, 127));
+    measure_open("worst listing", shuffled);
+    measure_open("sphere", sphere(5));
+    measure_open("bipyramid", bipyramid(16_382));
+}
+
+/// A tetrahedron is added behind the surface; then one of its triangles is turned round or gone, or it
+/// touches the surface at a corner.
+fn measure_open(name: &str, mut closed: Surface) {
+    let first = closed.point_count() as u32;
+    let mut piece = tetrahedron();
+    piece.shift([9.0; 3]);
+    closed.join(&piece);
+    let [mut turned, mut gone, mut touching] = [0; 3].map(|_| closed.clone());
+    let last = closed.corners.len() - 3;
+    turned.corners.swap(last, last + 1);
+    gone.corners.truncate(last);
+    gone.labels.pop();
+    touching.rename(first, first - 1);
+
+    let damaged = damaged(&closed);
+    let subjects = [&damaged, &closed, &turned, &gone, &touching];
+    for (surface, number) in subjects.into_iter().zip([6, 0, 31, 32, 33]) {
+        let mut work = vec![1; surface.work_words()];
+        assert_eq!(ours(surface, &mut work), number);
+    }
+    let times = subjects.map(|surface| time(surface, ours));
+    let [without, times @ ..] = leasts(CALLS, times.each_ref().map(|call| call as _));
+    let [closed_, open @ ..] = times.map(|time| time - without);
+    let cells = open.map(|open| format!("{open:.0} | {:.2}", open / closed_));
+    let triangles = closed.triangle_count();
+    println!(
+        "| {name}, {triangles} triangles | {closed_:.0} | {} |",
+        cells.join(" | ")
+    );
+}
+
+/// The judgement of an earlier archive.
+#[cfg(before)]
+mod before {
+    use super::{CALLS, damaged, ours, time};
+    use crate::table::{head, leasts, row};
+    use differential::surfaces::{Surface, bipyramid, torus};
+
+    unsafe extern "C" {
+        fn check_before(
+            points: *const f64,
+            point_values: usize,
+            corners: *const u32,
+            corner_numbers: usize,
+            labels: *const u8,
+            label_count: usize,
+            work: *mut u32,
+            work_words: usize,
+            numbers: *mut [f64; 2],
+        ) -> u32;
+    }
+
+    /// Ours beside the earlier one: the least of so many calls, in turn.
+    pub fn table() {
+        println!();
+        head("the judgement", "ours, µs", "before, µs");
+        for side in [32, 64, 128] {
+            measure("torus", &torus(side, side));
+        }
+        measure("bipyramid", &bipyramid(16_384));
+    }
+
+    fn measure(name: &str, surface: &Surface) {
+        let damaged = damaged(surface);
+        let [whole, without, whole_before, without_before] = leasts(
+            CALLS,
+            [
+                &time(surface, ours),
+                &time(&damaged, ours),
+                &time(surface, theirs),
+                &time(&damaged, theirs),
+            ],
+        );
+        let what = format!("{name}, {} triangles", surface.triangle_count());
+        row(&what, [whole - without, whole_before - without_before]);
+    }
+
+    fn theirs(surface: &Surface, work: &mut [u32]) -> u32 {
+        let Surface {
+            points,
+            corners,
+            labels,
+        } = surface;
+        let mut numbers = [0.0; 2];
+        // SAFETY: each pointer comes with its own slice's length, and what is written is borrowed
+        // alone.
+        unsafe {
+            check_before(
+                points.as_ptr(),
+                points.len(),
+                corners.as_ptr(),
+                corners.len(),
+                labels.as_ptr(),
+                labels.len(),
+                work.as_mut_ptr(),
+                work.len(),
+                &mut numbers,
+            )
+        }
+    }
 }

@@ -13,7 +13,18 @@ pub fn once<T, R>(prepare: impl Fn() -> T, call: impl Fn(&mut T) -> R) -> impl F
 
 /// The least of so many calls.
 pub fn least(calls: u32, call: impl Fn() -> f64) -> f64 {
-    (0..calls).map(|_| call()).fold(f64::INFINITY, f64::min)
+    leasts(calls, [&call])[0]
+}
+
+/// The least of so many calls of each, taken in turn.
+pub fn leasts<const N: usize>(calls: u32, each: [&dyn Fn() -> f64; N]) -> [f64; N] {
+    let mut leasts = [f64::INFINITY; N];
+    for _ in 0..calls {
+        for (least, call) in leasts.iter_mut().zip(each) {
+            *least = least.min(call());
+        }
+    }
+    leasts
 }
 
 /// The means of so many calls, ours and theirs in turn, after one of each that is not counted.
