@@ -20,8 +20,8 @@ struct Tally {
     same: u64,
 }
 
-// Whether a call is answered as the words from k on say: number, quality, volume. And whether it
-// leaves the work words as it must.
+// Whether a call is answered as the words from k on say: number, place, quality, volume. And whether
+// it leaves the work words as it must.
 fn agrees(
     text: &[u8],
     k: usize,
@@ -30,18 +30,32 @@ fn agrees(
     labels: &[u8],
     work: &mut [u32],
 ) -> bool
-    requires { ⌜ (k + 5 ≤ countOf (now text)) × (length (now points) ≤ 96) × (length (now corners) ≤ 96) ⌝ }
+    requires { ⌜ (k + 7 ≤ countOf (now text)) × (length (now points) ≤ 96) × (length (now corners) ≤ 96) ⌝ }
 {
     let mut numbers = [1.5f64, -1.5f64];
+    let mut place = [10u32, 11u32];
     vectors::lend(work);
-    let number = lanovishel::lanovishel_check(points, corners, labels, work, &mut numbers);
+    let number = lanovishel::lanovishel_check(
+        points,
+        corners,
+        labels,
+        work,
+        &mut numbers,
+        &mut place,
+    );
     if number != vectors::word(text, k) {
         return false;
     }
-    if !vectors::same(numbers[0], vectors::float(text, k + 1)) {
+    if place[0] != vectors::word(text, k + 1) {
         return false;
     }
-    if !vectors::same(numbers[1], vectors::float(text, k + 3)) {
+    if place[1] != vectors::word(text, k + 2) {
+        return false;
+    }
+    if !vectors::same(numbers[0], vectors::float(text, k + 3)) {
+        return false;
+    }
+    if !vectors::same(numbers[1], vectors::float(text, k + 5)) {
         return false;
     }
     let needed = corners.len() / 3 * 32 + points.len() / 3 * 16;
@@ -69,7 +83,7 @@ fn vector(text: &[u8], k: usize) -> Replayed
     if w > 2048 {
         return Replayed::No;
     }
-    let next = c + 6;
+    let next = c + 8;
     if next > vectors::count(text) {
         return Replayed::No;
     }

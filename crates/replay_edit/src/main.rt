@@ -67,9 +67,10 @@ fn agrees(
     verdicts: &mut [u32],
     journal: &mut [u32],
 ) -> bool
-    requires { ⌜ (k + 7 + length (now corners) + length (now labels) + length (now verdicts) + length (now journal) ≤ countOf (now text)) × (length (now points) ≤ 96) × (length (now corners) ≤ 96) ⌝ }
+    requires { ⌜ (k + 9 + length (now corners) + length (now labels) + length (now verdicts) + length (now journal) ≤ countOf (now text)) × (length (now points) ≤ 96) × (length (now corners) ≤ 96) ⌝ }
 {
     let mut answer = [7u32, 8u32];
+    let mut place = [10u32, 11u32];
     let number = lanovishel::lanovishel_edit(
         points,
         corners,
@@ -79,15 +80,22 @@ fn agrees(
         verdicts,
         journal,
         &mut answer,
+        &mut place,
     );
     if number != vectors::word(text, k) {
+        return false;
+    }
+    if place[0] != vectors::word(text, k + 1) {
+        return false;
+    }
+    if place[1] != vectors::word(text, k + 2) {
         return false;
     }
     let needed = corners.len() / 3 * 32 + points.len() / 3 * 16;
     if !vectors::cleared(work, vectors::clears(number, needed)) {
         return false;
     }
-    left_so(text, k + 1, corners, labels, verdicts, journal, &answer)
+    left_so(text, k + 3, corners, labels, verdicts, journal, &answer)
 }
 
 // Replays the vector whose entries stand at word k, on a surface that was read.
@@ -118,7 +126,7 @@ fn run(
     if j > 512 {
         return Replayed::No;
     }
-    let next = a + 9 + corners.len() + labels.len() + v + j;
+    let next = a + 11 + corners.len() + labels.len() + v + j;
     if next > vectors::count(text) {
         return Replayed::No;
     }

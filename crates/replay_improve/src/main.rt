@@ -90,17 +90,24 @@ fn ends_so(
     labels: &[u8],
     work: &[u32],
     answer: &[u32; 3],
+    place: &[u32; 2],
 ) -> bool
-    requires { ⌜ (k + 7 + length (now points) * 2 + length (now corners) + length (now labels) ≤ countOf (now text)) × (length (now points) ≤ 96) × (length (now corners) ≤ 96) ⌝ }
+    requires { ⌜ (k + 9 + length (now points) * 2 + length (now corners) + length (now labels) ≤ countOf (now text)) × (length (now points) ≤ 96) × (length (now corners) ≤ 96) ⌝ }
 {
     if number != vectors::word(text, k) {
+        return false;
+    }
+    if place[0] != vectors::word(text, k + 1) {
+        return false;
+    }
+    if place[1] != vectors::word(text, k + 2) {
         return false;
     }
     let needed = corners.len() / 3 * 32 + points.len() / 3 * 16;
     if !vectors::cleared(work, vectors::clears(number, needed)) {
         return false;
     }
-    left_so(text, k + 1, points, corners, labels, answer)
+    left_so(text, k + 3, points, corners, labels, answer)
 }
 
 // Whether a call on words that were lent, with the levels, the box and the rounds that stand from word
@@ -115,12 +122,13 @@ fn agrees(
     coefficients: &[f64],
     powers: &[u32],
 ) -> bool
-    requires { ⌜ (k + 24 + length (now points) * 2 + length (now corners) + length (now labels) ≤ countOf (now text)) × (length (now points) ≤ 96) × (length (now corners) ≤ 96) ⌝ }
+    requires { ⌜ (k + 26 + length (now points) * 2 + length (now corners) + length (now labels) ≤ countOf (now text)) × (length (now points) ≤ 96) × (length (now corners) ≤ 96) ⌝ }
 {
     let levels = levels_at(text, k);
     let bounds = bounds_at(text, k + 4);
     let rounds = vectors::word(text, k + 16);
     let mut answer = [7u32, 8u32, 9u32];
+    let mut place = [10u32, 11u32];
     let number = lanovishel::lanovishel_improve(
         points,
         corners,
@@ -132,8 +140,19 @@ fn agrees(
         &bounds,
         rounds,
         &mut answer,
+        &mut place,
     );
-    ends_so(text, k + 17, number, points, corners, labels, work, &answer)
+    ends_so(
+        text,
+        k + 17,
+        number,
+        points,
+        corners,
+        labels,
+        work,
+        &answer,
+        &place,
+    )
 }
 
 // Replays the vector whose coefficients stand at word k, on a surface that was read. There is room for
@@ -157,7 +176,7 @@ fn run(
     let Listed::Is(m, b) = vectors::words(text, a, &mut powers) else {
         return Replayed::No;
     };
-    let next = b + 24 + points.len() * 2 + corners.len() + labels.len();
+    let next = b + 26 + points.len() * 2 + corners.len() + labels.len();
     if next > vectors::count(text) {
         return Replayed::No;
     }
