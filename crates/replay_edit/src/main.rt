@@ -54,8 +54,40 @@ fn left_so(
     answer[1] == vectors::word(text, d + 1)
 }
 
-// Whether a call on words that were lent ends as the words from k on say, and leaves the work words
-// as it must.
+// Whether a call that was answered by the number ends as the words from k on say, and leaves the work
+// words as it must.
+fn ends_so(
+    text: &[u8],
+    k: usize,
+    number: u32,
+    points: &[f64],
+    corners: &[u32],
+    labels: &[u8],
+    work: &[u32],
+    verdicts: &[u32],
+    journal: &[u32],
+    answer: &[u32; 2],
+    place: &[u32; 2],
+) -> bool
+    requires { ⌜ (k + 9 + length (now corners) + length (now labels) + length (now verdicts) + length (now journal) ≤ countOf (now text)) × (length (now points) ≤ 96) × (length (now corners) ≤ 96) ⌝ }
+{
+    if number != vectors::word(text, k) {
+        return false;
+    }
+    if place[0] != vectors::word(text, k + 1) {
+        return false;
+    }
+    if place[1] != vectors::word(text, k + 2) {
+        return false;
+    }
+    let needed = corners.len() / 3 * 32 + points.len() / 3 * 16;
+    if !vectors::cleared(work, vectors::clears(number, needed)) {
+        return false;
+    }
+    left_so(text, k + 3, corners, labels, verdicts, journal, answer)
+}
+
+// Whether a call on words that were lent ends as the words from k on say.
 fn agrees(
     text: &[u8],
     k: usize,
@@ -82,20 +114,19 @@ fn agrees(
         &mut answer,
         &mut place,
     );
-    if number != vectors::word(text, k) {
-        return false;
-    }
-    if place[0] != vectors::word(text, k + 1) {
-        return false;
-    }
-    if place[1] != vectors::word(text, k + 2) {
-        return false;
-    }
-    let needed = corners.len() / 3 * 32 + points.len() / 3 * 16;
-    if !vectors::cleared(work, vectors::clears(number, needed)) {
-        return false;
-    }
-    left_so(text, k + 3, corners, labels, verdicts, journal, &answer)
+    ends_so(
+        text,
+        k,
+        number,
+        points,
+        corners,
+        labels,
+        work,
+        verdicts,
+        journal,
+        &answer,
+        &place,
+    )
 }
 
 // Replays the vector whose entries stand at word k, on a surface that was read.

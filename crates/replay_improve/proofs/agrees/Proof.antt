@@ -27,8 +27,8 @@ add-ends-so c = search needs
 
 ends-so-requires : tie.Need-ends-so-requires
 ends-so-requires c κs =
-    let I = c .before .before .before .before .before .before .before .before .before .before .before .before .before in
-    let h = I .before .before .before .before .before .before .before .before .before .before .before .before .before .before .before .before .before .before .pre in
+    let I = c .before .before .before .before .before .before .before .before .before .before .before .before .before .before in
+    let h = I .before .before .before .before .before .before .before .before .before .before .before .before .before .before .before .before .before .before .before .pre in
     let k = I .lanovishel-improve .kept in
     (omega (arith, h .0, k .0, k .1 .0, k .1 .1 .0), omega (arith, h .1, k .0), omega (arith, h .2, k .1 .0))
 
