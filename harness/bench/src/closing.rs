@@ -66,11 +66,11 @@ fn ours(surface: &Surface, work: &mut [u32]) -> u32 {
     }
 }
 
-/// What an answer of 31, 32 and 33 takes, set beside the judgement of the surface while it is closed:
-/// the least of so many calls, in turn. It is open at its last corners, where the search is longest.
+/// The judgement of a closed surface, and what the answers 31, 32 and 33 take in its place: the least
+/// of so many calls, in turn. The surface is open at its last corners, where the search is longest.
 fn open_table() {
     println!();
-    println!("| open | closed, µs | 31, µs | ratio | 32, µs | ratio | 33, µs | ratio |");
+    println!("| the judgement | closed, µs | 31, µs | ratio | 32, µs | ratio | 33, µs | ratio |");
     println!("|---|---|---|---|---|---|---|---|");
     let mut shuffled = torus(128, 127);
     shuffled.relist(&mut Random::new(1));
@@ -103,11 +103,11 @@ fn measure_open(name: &str, mut closed: Surface) {
     }
     let times = subjects.map(|surface| time(surface, ours));
     let [without, times @ ..] = leasts(CALLS, times.each_ref().map(|call| call as _));
-    let [closed_, open @ ..] = times.map(|time| time - without);
-    let cells = open.map(|open| format!("{open:.0} | {:.2}", open / closed_));
+    let [judgement, open @ ..] = times.map(|time| time - without);
+    let cells = open.map(|open| format!("{open:.0} | {:.2}", open / judgement));
     let triangles = closed.triangle_count();
     println!(
-        "| {name}, {triangles} triangles | {closed_:.0} | {} |",
+        "| {name}, {triangles} triangles | {judgement:.0} | {} |",
         cells.join(" | ")
     );
 }
