@@ -89,10 +89,9 @@ fn measure_open(name: &str, mut closed: Surface) {
     piece.shift([9.0; 3]);
     closed.join(&piece);
     let [mut turned, mut gone, mut touching] = [0; 3].map(|_| closed.clone());
-    let last = closed.corners.len() - 3;
-    turned.corners.swap(last, last + 1);
-    gone.corners.truncate(last);
-    gone.labels.pop();
+    let last = closed.triangle_count() - 1;
+    turned.corners.swap(3 * last, 3 * last + 1);
+    gone.remove(last);
     touching.rename(first, first - 1);
 
     let damaged = damaged(&closed);

@@ -32,8 +32,8 @@ const KINDS: [Damage; 20] = [
     one_coordinate_far_away,
 ];
 
-/// What opens a surface and leaves its lists fit and its triangles in shape; from 2 on a directed
-/// side is seldom repeated, and from 3 on each has its reverse.
+/// What opens a surface and leaves its lists fit. Those behind the first two seldom repeat a directed
+/// side, and those behind the third leave each its reverse.
 const INJURIES: [Damage; 5] = [
     triangle_twice,
     triangle_turned_round,
@@ -150,15 +150,11 @@ fn point_between_two(surface: &mut Surface, random: &mut Random) {
 }
 
 fn triangle_gone(surface: &mut Surface, random: &mut Random) {
-    let place = any_triangle(surface, random);
-    surface.corners.drain(place..place + 3);
-    surface.labels.remove(place / 3);
+    surface.remove(random.below(surface.triangle_count()));
 }
 
 fn triangle_twice(surface: &mut Surface, random: &mut Random) {
-    let place = any_triangle(surface, random);
-    surface.corners.extend_from_within(place..place + 3);
-    surface.labels.push(surface.labels[place / 3]);
+    surface.double(random.below(surface.triangle_count()));
 }
 
 fn triangle_turned_round(surface: &mut Surface, random: &mut Random) {

@@ -3,9 +3,9 @@
 use crate::questions::No;
 use std::collections::BTreeMap;
 
-/// 31 for a directed side that occurs more than once, 32 for one whose reverse does not occur, each
-/// with the smallest pair of corners in running order, 33 for the smallest corner whose triangles
-/// are more than one ring; in this turn.
+/// In this turn: 31 for a directed side that occurs more than once, 32 for one whose reverse does not
+/// occur, each with the smallest pair of corners in running order, and 33 for the smallest corner
+/// whose triangles are more than one ring.
 pub fn finding(triangles: &[[u32; 3]]) -> Result<(), No> {
     // How often each directed side occurs.
     let mut times = BTreeMap::new();
@@ -17,12 +17,10 @@ pub fn finding(triangles: &[[u32; 3]]) -> Result<(), No> {
             around.entry(u).or_default().insert(v, w);
         }
     }
-    let repeated = times.iter().find(|&(_, &times)| times > 1);
-    let lone = times.keys().find(|&&[u, v]| !times.contains_key(&[v, u]));
-    if let Some((&place, _)) = repeated {
+    if let Some((&place, _)) = times.iter().find(|&(_, &times)| times > 1) {
         return Err(No { number: 31, place });
     }
-    if let Some(&place) = lone {
+    if let Some(&place) = times.keys().find(|&&[u, v]| !times.contains_key(&[v, u])) {
         return Err(No { number: 32, place });
     }
     match around.iter().find(|(_, steps)| !one_ring(steps)) {

@@ -64,6 +64,19 @@ impl Surface {
         self.labels.extend(&other.labels);
     }
 
+    /// Takes a triangle out.
+    pub fn remove(&mut self, triangle: usize) {
+        self.corners.drain(3 * triangle..3 * triangle + 3);
+        self.labels.remove(triangle);
+    }
+
+    /// Lists a triangle once more, at the end.
+    pub fn double(&mut self, triangle: usize) {
+        self.corners
+            .extend_from_within(3 * triangle..3 * triangle + 3);
+        self.labels.push(self.labels[triangle]);
+    }
+
     /// Puts the corner `to` in the place of `from` wherever a triangle names that.
     pub fn rename(&mut self, from: u32, to: u32) {
         self.corners

@@ -38,8 +38,7 @@ fn starred_cases() {
     assert_eq!(accepted.volume.to_bits(), 0x3fc5_5555_5555_5555);
 
     let mut open = tetrahedron();
-    open.corners.truncate(9);
-    open.labels.truncate(3);
+    open.remove(3);
     assert_eq!(check(&open), Err(Refusal::Lone { from: 1, to: 3 }));
 
     let mut turned = tetrahedron();

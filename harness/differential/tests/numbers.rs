@@ -1,45 +1,31 @@
-//! docs/NUMBERS.md beside the Rust crate: each number there has a small call that is refused with it,
-//! and its name.
+//! Refusals by their names: docs/NUMBERS.md beside the Rust crate, and small open surfaces whose
+//! place is seen by looking.
 use differential::surfaces::{Surface, pillow, tetrahedron, touching};
 use lanovishel::{Field, Refusal};
 
 const NUMBERS: &str = include_str!("../../../docs/NUMBERS.md");
 
-fn tetrahedron_but(alter: impl Fn(&mut Surface)) -> Surface {
-    let mut surface = tetrahedron();
-    alter(&mut surface);
-    surface
+fn check(surface: Surface) -> Refusal {
+    let mut work = vec![1; surface.work_words()];
+    check_with(&mut work, surface)
 }
 
-fn check(surface: &Surface, work_words: usize) -> Refusal {
-    let mut work = vec![1; work_words];
-    lanovishel::check(
-        &surface.points,
-        &surface.corners,
-        &surface.labels,
-        &mut work,
-    )
-    .unwrap_err()
-}
-
-fn checked(surface: &Surface) -> Refusal {
-    check(surface, surface.work_words())
+fn check_with(work: &mut [u32], surface: Surface) -> Refusal {
+    lanovishel::check(&surface.points, &surface.corners, &surface.labels, work).unwrap_err()
 }
 
 fn edit(mut surface: Surface, entries: &[u32]) -> Refusal {
     let mut work = vec![1; surface.work_words()];
-    let Surface {
-        points,
-        corners,
-        labels,
-    } = &mut surface;
+    let (corners, labels) = (&mut surface.corners, &mut surface.labels);
+    let points = &surface.points;
+    let verdicts = &mut [];
     lanovishel::edit(
         points,
         corners,
         labels,
         &mut work,
         entries,
-        &mut [],
+        verdicts,
         &mut [],
     )
     .unwrap_err()
@@ -53,37 +39,38 @@ fn improve(mut surface: Surface, powers: &[u32], rounds: u32) -> Refusal {
         levels: [0.0, 1.0],
         bounds: [-1.0, -1.0, -1.0, 1.0, 1.0, 1.0],
     };
-    let Surface {
-        points,
-        corners,
-        labels,
-    } = &mut surface;
+    let (corners, labels) = (&mut surface.corners, &mut surface.labels);
+    let points = &mut surface.points;
     lanovishel::improve(points, corners, labels, &mut work, &field, rounds).unwrap_err()
 }
 
+fn altered(mut surface: Surface, alter: impl Fn(&mut Surface)) -> Surface {
+    alter(&mut surface);
+    surface
+}
+
+/// Every row of the table has a call that is refused so.
 #[test]
 fn each_has_its_name() {
+    let but = |alter: fn(&mut Surface)| altered(tetrahedron(), alter);
     let refusals = [
-        checked(&tetrahedron_but(|s| s.labels.truncate(3))),
-        checked(&tetrahedron_but(|s| s.points.resize(3 * 32_769, 0.0))),
-        check(&tetrahedron(), 191),
-        checked(&tetrahedron_but(|s| s.points[0] = f64::NAN)),
-        checked(&tetrahedron_but(|s| s.corners[0] = 4)),
-        checked(&tetrahedron_but(|s| s.corners[0] = 1)),
-        checked(&tetrahedron_but(Surface::reverse)),
-        edit(tetrahedron_but(|s| s.labels[0] = 8), &[]),
-        edit(tetrahedron_but(|s| s.corners[0] = 1), &[]),
-        edit(tetrahedron_but(|s| s.labels[0] = 1), &[]),
+        check(but(|s| s.labels.truncate(3))),
+        check(but(|s| s.points.resize(3 * 32_769, 0.0))),
+        check_with(&mut [1; 191], tetrahedron()),
+        check(but(|s| s.points[0] = f64::NAN)),
+        check(but(|s| s.corners[0] = 4)),
+        check(but(|s| s.corners[0] = 1)),
+        check(but(Surface::reverse)),
+        edit(but(|s| s.labels[0] = 8), &[]),
+        edit(but(|s| s.corners[0] = 1), &[]),
+        edit(but(|s| s.labels[0] = 1), &[]),
         edit(pillow(), &[]),
         improve(tetrahedron(), &[], 1),
         improve(tetrahedron(), &[1, 0, 0], 1_001),
         edit(tetrahedron(), &[1]),
-        checked(&tetrahedron_but(|s| s.corners.swap(0, 1))),
-        checked(&tetrahedron_but(|s| {
-            s.corners.truncate(9);
-            s.labels.truncate(3);
-        })),
-        checked(&touching()),
+        check(but(|s| s.double(0))),
+        check(but(|s| s.remove(3))),
+        check(touching()),
     ];
     let rows: Vec<&str> = NUMBERS
         .lines()
@@ -97,4 +84,33 @@ fn each_has_its_name() {
         let start = format!("| {} | `{name}", refusal.number());
         assert!(row.starts_with(&start), "{refusal} is not: {row}");
     }
+}
+
+/// Holds what each of the three functions says of a surface to one refusal.
+fn assert_all(surface: Surface, refusal: Refusal) {
+    assert_eq!(check(surface.clone()), refusal);
+    assert_eq!(edit(surface.clone(), &[]), refusal);
+    assert_eq!(improve(surface, &[1, 0, 0], 1), refusal);
+}
+
+#[test]
+fn places() {
+    let repeated = altered(tetrahedron(), |s| s.double(0));
+    assert_all(repeated, Refusal::Repeated { from: 0, to: 2 });
+    let lone = altered(tetrahedron(), |s| s.remove(3));
+    assert_all(lone, Refusal::Lone { from: 1, to: 3 });
+    assert_all(touching(), Refusal::Split { corner: 0 });
+}
+
+#[test]
+fn in_turn() {
+    // The side from 0 to 1 is lone as well, and the triangles around 0 are no ring.
+    let repeated = altered(touching(), |s| {
+        s.double(3);
+        s.remove(0);
+    });
+    assert_all(repeated, Refusal::Repeated { from: 1, to: 2 });
+    // The triangles around 0 are two rings as well.
+    let lone = altered(touching(), |s| s.remove(3));
+    assert_all(lone, Refusal::Lone { from: 1, to: 3 });
 }

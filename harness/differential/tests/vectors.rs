@@ -1,4 +1,5 @@
-//! The vectors of the folder `vectors`, replayed: they stand in where the original is not there.
+//! The vectors of the folder `vectors`, replayed: they stand in where the original is not there. The
+//! programs `replay_check`, `replay_edit` and `replay_improve` read the same.
 use differential::{
     call::Call,
     checking, editing, improving,
@@ -7,26 +8,28 @@ use differential::{
 use std::{fs, path::Path};
 
 fn replay(name: &str, format: Format, ours: fn(&Call) -> Call) {
-    let path = Path::new(env!("CARGO_MANIFEST_DIR"))
-        .join("vectors")
-        .join(name);
-    let text = fs::read_to_string(&path).unwrap();
+    let read = |path: String| {
+        let path = Path::new(env!("CARGO_MANIFEST_DIR")).join(path);
+        fs::read_to_string(path).unwrap()
+    };
+    let text = read(format!("vectors/{name}.words"));
     let count = vectors::replay(format, &text, ours).unwrap();
     println!("{name}: {count} vectors");
     assert!(count > 0);
+    assert!(text == read(format!("../../crates/replay_{name}/stdin")));
 }
 
 #[test]
 fn of_checking() {
-    replay("check.words", vectors::CHECK, checking::ours);
+    replay("check", vectors::CHECK, checking::ours);
 }
 
 #[test]
 fn of_editing() {
-    replay("edit.words", vectors::EDIT, editing::ours);
+    replay("edit", vectors::EDIT, editing::ours);
 }
 
 #[test]
 fn of_improving() {
-    replay("improve.words", vectors::IMPROVE, improving::ours);
+    replay("improve", vectors::IMPROVE, improving::ours);
 }
