@@ -196,7 +196,7 @@ fn before_rules(corners: &[u32], labels: &[u8], points: usize, work: &mut [u32])
     Asked::Passed
 }
 
-// The questions from 9 on, rules (a) to (d) among them. A closed surface is judged once; another is searched for what is wrong with (b) and (c), and where that is nothing, it is (d).
+// The questions from 9 on, rules (a) to (d) among them. A closed surface is judged once; of another it is asked what is wrong with (b) and (c), and where that is nothing, it is (d).
 fn further(corners: &[u32], labels: &[u8], points: usize, work: &mut [u32]) -> Asked
     requires { ⌜ Sized (now corners) (now labels) points (now work) ⌝ }
     ensures { λ r. ⌜ Further (now (corners .entry)) (now (labels .entry)) points (now (work .entry)) (now (work .exit)) r ⌝ }
@@ -208,7 +208,7 @@ fn further(corners: &[u32], labels: &[u8], points: usize, work: &mut [u32]) -> A
     if closing::closed_surface(corners, points, work) {
         return Asked::Passed;
     }
-    let found = closing::locate(corners, points, work);
+    let found = closing::finding(corners, points, work);
     if let Asked::Refused(why) = on_finding(found) {
         return Asked::Refused(why);
     }

@@ -91,8 +91,8 @@ returns-2 c =
       words = again (words (now (s .args .corners)) (s .args .points)) (now (s .args .work)) (b .before-rules .last .1 .1 .1 .0) _ (b .before-rules .ensures .far) (k .closed-surface .ensures .zeroed);
     }
 
-locate-requires : tie.Need-locate-requires
-locate-requires c κs =
+finding-requires : tie.Need-finding-requires
+finding-requires c κs =
     let k = c .before .before .before .before in
     let e = k .before .before in
     lent _ _ _ (fit e) (resized (k .closed-surface .kept .1 .1 .0 ∙ before e .before-rules .kept .1 .1 .1 .0) (start (before e) .pre))
@@ -104,19 +104,19 @@ enum-known-why-2 : tie.Need-enum-known-why-2
 enum-known-why-2 c = search needs
 
 -- the words after the surface was judged and searched
-abbrev judged : tie.After-locate → tie.After-closed-surface
+abbrev judged : tie.After-finding → tie.After-closed-surface
 judged m = m .before .before .before .before .before
 
-cleared-twice : (m : tie.After-locate) →
+cleared-twice : (m : tie.After-finding) →
     let e = judged m .before .before in
-    m .locate .last .1 .1 .0 ≡ cleared (words (now (start (before e) .args .corners)) (start (before e) .args .points)) (now (start (before e) .args .work))
+    m .finding .last .1 .1 .0 ≡ cleared (words (now (start (before e) .args .corners)) (start (before e) .args .points)) (now (start (before e) .args .work))
 cleared-twice m =
     let k = judged m in
     let b = before (k .before .before) in
     let s = start b in
     let n = words (now (s .args .corners)) (s .args .points) in
     again n (now (s .args .work)) (k .closed-surface .last .1 .1 .0) _ (far-clear n (k .closed-surface .last .1 .1 .0) (b .before-rules .last .1 .1 .1 .0) (k .closed-surface .ensures .zeroed) ∙ b .before-rules .ensures .far)
-    (m .locate .ensures .zeroed)
+    (m .finding .ensures .zeroed)
 
 same-length-3 : tie.Need-same-length-3
 same-length-3 c = search needs
@@ -127,7 +127,7 @@ returns-3 c =
     let f = y .before .before in
     let m = f .before .before .before in
     record {
-      answer = open-found _ _ _ (fit (judged m .before .before)) (ap onFinding (sym (m .locate .ensures .answer)) ∙ sym (f .on-finding .ensures) ∙ y .why2 .given .1);
+      answer = open-found _ _ _ (fit (judged m .before .before)) (ap onFinding (sym (m .finding .ensures .answer)) ∙ sym (f .on-finding .ensures) ∙ y .why2 .given .1);
       words = cleared-twice m;
     }
 
@@ -143,7 +143,7 @@ returns-4 c =
     let m = f .before .before .before in
     let k = judged m in
     record {
-      answer = twice-twelve _ _ _ (fit (k .before .before)) (ap onFinding (sym (m .locate .ensures .answer)) ∙ sym (f .on-finding .ensures) ∙ c .enum-told2 .given .1)
+      answer = twice-twelve _ _ _ (fit (k .before .before)) (ap onFinding (sym (m .finding .ensures .answer)) ∙ sym (f .on-finding .ensures) ∙ c .enum-told2 .given .1)
           (λ x. true≢false (sym (k .closed-surface .ensures .decides .1 x) ∙ m .before .before .if1 .left));
       words = cleared-twice m;
     }
@@ -164,7 +164,7 @@ further-spec =
     closed-surface-requires
     same-length-2
     returns-2
-    locate-requires
+    finding-requires
     on-finding-requires
     enum-known-why-2
     same-length-3
