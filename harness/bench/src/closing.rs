@@ -67,7 +67,7 @@ fn ours(surface: &Surface, work: &mut [u32]) -> u32 {
 }
 
 /// The judgement of a closed surface, and what the answers 31, 32 and 33 take in its place: the least
-/// of so many calls, in turn. The surface is open at its last corners, where the search is longest.
+/// of so many calls, in turn.
 fn open_table() {
     println!();
     println!("| the judgement | closed, µs | 31, µs | ratio | 32, µs | ratio | 33, µs | ratio |");
@@ -75,24 +75,42 @@ fn open_table() {
     let mut shuffled = torus(128, 127);
     shuffled.relist(&mut Random::new(1));
     shuffled.renumber(&mut Random::new(1), 0);
-    measure_open("torus", torus(128, 127));
-    measure_open("worst listing", shuffled);
-    measure_open("sphere", sphere(5));
-    measure_open("bipyramid", bipyramid(16_382));
-}
-
-/// A tetrahedron is added behind the surface; then one of its triangles is turned round or gone, or it
-/// touches the surface at a corner.
-fn measure_open(name: &str, mut closed: Surface) {
-    let first = closed.point_count() as u32;
+    let surfaces = [
+        ("torus", torus(128, 127)),
+        ("worst listing", shuffled),
+        ("sphere", sphere(5)),
+        ("bipyramid", bipyramid(16_382)),
+    ];
     let mut piece = tetrahedron();
     piece.shift([9.0; 3]);
-    closed.join(&piece);
+    for (name, surface) in &surfaces {
+        let last = (surface.triangle_count(), surface.point_count() as u32);
+        measure_open(name, "first", surface, &piece, (0, 4));
+        measure_open(name, "last", surface, &piece, last);
+    }
+}
+
+/// A tetrahedron stands before the surface or behind it; then its first triangle is turned round or
+/// gone, or the two pieces touch at a corner. `(triangle, corner)`: its first triangle, and the first
+/// corner of the piece that comes second.
+fn measure_open(
+    name: &str,
+    end: &str,
+    surface: &Surface,
+    piece: &Surface,
+    (triangle, corner): (usize, u32),
+) {
+    let (before, behind) = if triangle == 0 {
+        (piece, surface)
+    } else {
+        (surface, piece)
+    };
+    let mut closed = before.clone();
+    closed.join(behind);
     let [mut turned, mut gone, mut touching] = [0; 3].map(|_| closed.clone());
-    let last = closed.triangle_count() - 1;
-    turned.corners.swap(3 * last, 3 * last + 1);
-    gone.remove(last);
-    touching.rename(first, first - 1);
+    turned.corners.swap(3 * triangle, 3 * triangle + 1);
+    gone.remove(triangle);
+    touching.rename(corner, corner - 1);
 
     let damaged = damaged(&closed);
     let subjects = [&damaged, &closed, &turned, &gone, &touching];
@@ -106,7 +124,7 @@ fn measure_open(name: &str, mut closed: Surface) {
     let cells = open.map(|open| format!("{open:.0} | {:.2}", open / judgement));
     let triangles = closed.triangle_count();
     println!(
-        "| {name}, {triangles} triangles | {judgement:.0} | {} |",
+        "| {name}, {triangles} triangles, open at its {end} corners | {judgement:.0} | {} |",
         cells.join(" | ")
     );
 }

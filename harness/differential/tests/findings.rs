@@ -11,7 +11,7 @@ const FINDINGS: [u32; 3] = [31, 32, 33];
 
 /// A surface with one to five injuries, and what each of the three functions takes besides.
 fn call(random: &mut Random) -> Call {
-    let most = random.pick(&[8, 24, 100, 400]);
+    let most = random.pick(&[8, 24, 60, 100]);
     let mut surface = surfaces::any(random, most);
     if random.one_in(2_000) {
         surface = surfaces::torus(100, 100);
