@@ -8,7 +8,7 @@ use Rattle.surface.specs.Triangle.{triangles, corners}
 use Rattle.surface.specs.Edit.{first, hinge, flip, collapse, without}
 use Rattle.surface.specs.Closed.{sides, around}
 use Rattle.surface.specs.Check.{closed?, every, leftover, unused, next as leads, others}
-use Rattle.surface.specs.Finding.{bound, least, finding}
+use Rattle.surface.specs.Finding.{bound, smallestBelow, finding}
 use Rattle.surface.specs.Label.{carries}
 use Rattle.questions.specs.Rules.{distinct?}
 use Rattle.questions.specs.Questions.{lentQuestions, furtherQuestions, surfaceQuestions}
@@ -19,5 +19,5 @@ use Rattle.history.specs.Lists.{entries}
 use Rattle.cases.specs.Table.{same, right, at, octahedron, pillow, table}
 
 pub cases : every right table ≡ true
-unfolding every right table same at octahedron pillow ofInt round units odd size climb span add sub mul div lt le isNan toBits ofBits root isFinite lesser triangles corners first hinge flip collapse without sides around closed? leftover unused leads others bound least finding distinct? carries lentQuestions furtherQuestions surfaceQuestions rated wedge measure measured examined validated verdict next after verdicts entries
+unfolding every right table same at octahedron pillow ofInt round units odd size climb span add sub mul div lt le isNan toBits ofBits root isFinite lesser triangles corners first hinge flip collapse without sides around closed? leftover unused leads others bound smallestBelow finding distinct? carries lentQuestions furtherQuestions surfaceQuestions rated wedge measure measured examined validated verdict next after verdicts entries
 cases = refl

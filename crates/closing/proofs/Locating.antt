@@ -12,14 +12,14 @@ use lib.Seq.{getD-set-same, getD-set-other, drop-set-lt}
 use borrow.Author.Tests.{eqb-true, eqb-false, ltb-true, ltb-false}
 use Rattle.surface.specs.Triangle.{triangles}
 use Rattle.surface.specs.Closed.{Step, sides, around, InUse, Ring, Paired, Manifold}
-use Rattle.surface.specs.Finding.{IsLone, IsSplit, NoneRepeated, Before, SmallestPair, Finds}
+use Rattle.surface.specs.Finding.{IsLone, IsSplit, NoneRepeated, PairBefore, SmallestPair, Finds}
 use Rattle.surface.specs.declared.Finding.the-variants.{Closed, Repeated, Lone, Split}
 use Rattle.surface.proofs.Findings.{paired-once, none-paired}
 use Rattle.halfedges.specs.Place.{nx, pv, at, last, Sized, Linked, stamp, Stamped}
 use Rattle.halfedges.proofs.Steps.{froms, pl, around-places, sides-froms}
 use Rattle.halfedges.proofs.Fine.{Fine, nx-below, pv-below, from-of, in-length, ring-even}
 use Rattle.halfedges.proofs.Turns.{same-or}
-use Rattle.closing.specs.Locating.{hits, Some, Two, Unmet, Least, lower, Met, Wrong, IsFirst, NoneBelow}
+use Rattle.closing.specs.Locating.{hits, Some, Two, Unmet, Least, lower, StampsMean, Wrong, IsFirst, NoneBelow}
 use Rattle.closing.specs.Stages.{FirstUnringed}
 use Rattle.closing.specs.declared.Side.{Side}
 use Rattle.closing.specs.declared.Side.the-variants.{Found, Nowhere}
@@ -91,7 +91,7 @@ module _ (g : ℕ → ℕ) (c : List ℕ) (p : ℕ) (w : List ℕ) (u k x a : �
   pub stamp-next : Linked c p w (length c) → at (set w (p + x + x) a) (p + p + p + k) ≡ last c u k
   stamp-next h = at-other (p + p + p + k) (λ q. omega arith) ∙ h .links k low ∙ ap (λ (i : ℕ). last c i k) names
 
-  pub stamp-met : Met g c p w u (suc k) → Met g c p (set w (p + x + x) a) u (last c u k)
+  pub stamp-met : StampsMean g c p w u (suc k) → StampsMean g c p (set w (p + x + x) a) u (last c u k)
   stamp-met h =
       let w′ = set w (p + x + x) a in
       record {
@@ -112,7 +112,7 @@ module _ (g : ℕ → ℕ) (c : List ℕ) (p : ℕ) (w : List ℕ) (u k x a : �
             (same-or z x);
       }
 
-pub met-start : (g : ℕ → ℕ) (c : List ℕ) (p : ℕ) (w : List ℕ) (u : ℕ) → Stamped p w u → Met g c p w u (last c u (length c))
+pub met-start : (g : ℕ → ℕ) (c : List ℕ) (p : ℕ) (w : List ℕ) (u : ℕ) → Stamped p w u → StampsMean g c p w u (last c u (length c))
 met-start g c p w u h = record {
   stamped = λ x l. omega (arith, h x l);
   known = λ x l s. absurd (omega (arith, s, hits-last g c u x (length c)));
@@ -128,7 +128,7 @@ two-start c p u = record {
   before = λ y l s. omega (arith, s, hits-last nx c u y (length c));
 }
 
-pub two-turn : (c : List ℕ) (p : ℕ) (w : List ℕ) (u k x seen mark best best′ : ℕ) → k < length c → at c k ≡ u → x ≡ at c (nx k) → x < p → seen ≡ stamp p w x → mark ≡ suc u → best′ ≡ lower (eqb seen mark) x best → Met nx c p w u (suc k) → Least (Two c u (suc k)) p best → Least (Two c u (last c u k)) p best′
+pub two-turn : (c : List ℕ) (p : ℕ) (w : List ℕ) (u k x seen mark best best′ : ℕ) → k < length c → at c k ≡ u → x ≡ at c (nx k) → x < p → seen ≡ stamp p w x → mark ≡ suc u → best′ ≡ lower (eqb seen mark) x best → StampsMean nx c p w u (suc k) → Least (Two c u (suc k)) p best → Least (Two c u (last c u k)) p best′
 two-turn c p w u k x seen mark best best′ low names x-is x-low s m e met h =
     let here = count-here nx c u k x low names x-is in
     best-turn p x best best′ x-low
@@ -173,7 +173,7 @@ unmet-turn c p w u k x seen mark best best′ low names x-is x-low s m e h =
     here true q = refl
     here false q = sym q
 
-pub unmet-lone : (c : List ℕ) (p : ℕ) (w : List ℕ) (u r : ℕ) → length c % 3 ≡ 0 → Met pv c p w u 0 → Least (Unmet c p w u 0) p r → Least (Wrong true (triangles c) u) p r
+pub unmet-lone : (c : List ℕ) (p : ℕ) (w : List ℕ) (u r : ℕ) → length c % 3 ≡ 0 → StampsMean pv c p w u 0 → Least (Unmet c p w u 0) p r → Least (Wrong true (triangles c) u) p r
 unmet-lone c p w u r h met l = least-map on back l
   where
     none : (y : ℕ) → y < p → (stamp p w y ≡ suc u → ⊥) → Dec (sides (triangles c) y u ≡ 0) → sides (triangles c) y u ≡ 0
@@ -207,7 +207,7 @@ module _ (c : List ℕ) (p : ℕ) (thirds : length c % 3 ≡ 0) (below : (k : �
   pub first-at : (lone : Bool) (u r : ℕ) → Least (Wrong lone (triangles c) u) p r → r < p → ((x : ℕ) → x < u → (y : ℕ) → Wrong lone (triangles c) x y → ⊥) → SmallestPair (Wrong lone (triangles c)) u r
   first-at lone u r h l passed = record { holds = h .holds l; smallest = smallest }
     where
-      smallest : (x y : ℕ) → Before x y u r → Wrong lone (triangles c) x y → ⊥
+      smallest : (x y : ℕ) → PairBefore x y u r → Wrong lone (triangles c) x y → ⊥
       smallest x y (inl m) q = passed x m y q
       smallest x y (inr m) q = h .before y (m .1) (subst (λ (z : ℕ). Wrong lone (triangles c) z y) (m .0) q)
 

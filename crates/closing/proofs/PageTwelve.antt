@@ -13,7 +13,7 @@ use Rattle.surface.specs.Original.{originalClosed}
 use Rattle.surface.specs.PageTwelve.{Relisted}
 use Rattle.surface.proofs.PageTwelve.{page-twelve}
 use Rattle.surface.proofs.Original.{original-iff}
-use Rattle.closing.specs.Closing.{Found, ClosedDecided}
+use Rattle.closing.specs.Closing.{Judgement, ClosedDecided}
 
 -- two tests that are passed together give one answer
 same-answer : (r s : Bool) → ((r ≡ true) ↔ (s ≡ true)) → r ≡ s
@@ -27,11 +27,11 @@ closed-order relisted {r = r} {s = s} h k =
     let t = page-twelve relisted in
     same-answer r s ((λ e. k .decides .1 (t .closed .0 (h .decides .0 e))), λ e. h .decides .1 (t .closed .1 (k .decides .0 e)))
 
-pub found-order : {c d : List ℕ} → Relisted (triangles c) (triangles d) → {p q : ℕ} {w w′ x x′ : List ℕ} {f g : Finding} → Found c p w w′ f → Found d q x x′ g → f ≡ g
+pub found-order : {c d : List ℕ} → Relisted (triangles c) (triangles d) → {p q : ℕ} {w w′ x x′ : List ℕ} {f g : Finding} → Judgement c p w w′ f → Judgement d q x x′ g → f ≡ g
 found-order relisted h k = h .answer ∙ finding-order relisted ∙ sym (k .answer)
 
 -- Beside the Rust's `closed_oriented_manifold`, where document 01's order of questions reaches it (every corner is on the list): all three findings mean no.
-pub found-original : {c : List ℕ} {p : ℕ} {w w′ : List ℕ} {f : Finding} → Below p (triangles c) → Found c p w w′ f → (f ≡ finds.Closed) ↔ (originalClosed (triangles c) p ≡ true)
+pub found-original : {c : List ℕ} {p : ℕ} {w w′ : List ℕ} {f : Finding} → Below p (triangles c) → Judgement c p w w′ f → (f ≡ finds.Closed) ↔ (originalClosed (triangles c) p ≡ true)
 found-original {c} {p} below h =
     let o = original-iff (triangles c) p below in
     let k = finding-closed (triangles c) in

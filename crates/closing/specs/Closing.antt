@@ -27,7 +27,7 @@ abbrev pub Zeroed : List ℕ → ℕ → List ℕ → List ℕ → Type 0
 Zeroed c p w w′ = w′ ≡ replicate (needed c p) 0 ++ drop (needed c p) w
 
 -- rules (b) and (c), and where they fail
-pub record Found (c : List ℕ) (p : ℕ) (w w′ : List ℕ) (r : Finding) : Type 0 where
+pub record Judgement (c : List ℕ) (p : ℕ) (w w′ : List ℕ) (r : Finding) : Type 0 where
   pub answer : r ≡ finding (triangles c)
   pub zeroed : Zeroed c p w w′
 

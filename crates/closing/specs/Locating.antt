@@ -53,7 +53,7 @@ pub record Prepared (c : List ℕ) (p : ℕ) (w w′ : List ℕ) : Type 0 where
   pub far : drop (used c p) w′ ≡ drop (used c p) w
 
 -- the corners that the places of u from q on lead to by g are stamped, and no others
-pub record Met (g : ℕ → ℕ) (c : List ℕ) (p : ℕ) (w : List ℕ) (u q : ℕ) : Type 0 where
+pub record StampsMean (g : ℕ → ℕ) (c : List ℕ) (p : ℕ) (w : List ℕ) (u q : ℕ) : Type 0 where
   pub stamped : Stamped p w (suc u)
   pub known : (x : ℕ) → x < p → Some g c u q x → stamp p w x ≡ suc u
   pub found : (x : ℕ) → x < p → stamp p w x ≡ suc u → Some g c u q x
@@ -62,7 +62,7 @@ pub record Met (g : ℕ → ℕ) (c : List ℕ) (p : ℕ) (w : List ℕ) (u q : 
 pub record OriginsStamped (c : List ℕ) (p u : ℕ) (w w′ : List ℕ) : Type 0 where
   pub ready : Ready c p w′ (suc u)
   pub far : drop (used c p) w′ ≡ drop (used c p) w
-  pub met : Met pv c p w′ u 0
+  pub met : StampsMean pv c p w′ u 0
 
 -- what is sought of a directed side: that it is repeated, or that it lacks its reverse
 abbrev pub Wrong : Bool → List Tri → ℕ → ℕ → Type 0

@@ -14,7 +14,7 @@ ghost use Prim.Native.Nat.{ℕ, suc, _+_, _%_, _<_, _≤_};
 ghost use lib.ListN.{length, drop, replicate};
 ghost use Rattle.halfedges.specs.Place.{at, hopTo, trip, Sized, Inside};
 ghost use Rattle.surface.specs.Triangle.{triangles};
-ghost use Rattle.closing.specs.Closing.{Lent, Found, ClosedDecided};
+ghost use Rattle.closing.specs.Closing.{Lent, Judgement, ClosedDecided};
 ghost use Rattle.closing.specs.Stages.{Chained, Ready, Entered, Judged, FirstUnringed, Unringed, Told};
 ghost use Rattle.closing.specs.Locating.{lower, Least, Unmet, Prepared, OriginsStamped, EndSought, NoneBelow, SideSought, Located};
 
@@ -276,7 +276,7 @@ fn locate(corners: &[u32], points: usize, v: usize, work: &mut [u32]) -> Finding
 // The lent words, 32 for each triangle and 16 for each point, may hold anything, and are 0 afterwards.
 pub fn finding(corners: &[u32], points: usize, work: &mut [u32]) -> Finding
     requires { ⌜ Lent (now corners) points (now work) ⌝ }
-    ensures { λ r. ⌜ Found (now (corners .entry)) points (now (work .entry)) (now (work .exit)) r ⌝ }
+    ensures { λ r. ⌜ Judgement (now (corners .entry)) points (now (work .entry)) (now (work .exit)) r ⌝ }
 {
     let v = first_unringed(corners, points, 1, work);
     let found = locate(corners, points, v, work);

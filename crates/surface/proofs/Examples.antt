@@ -8,7 +8,7 @@ use Rattle.surface.specs.Triangle.{Tri, tri}
 use Rattle.surface.specs.Closed.{sides, around, Closed}
 use Rattle.surface.specs.Edit.{first, flip, without, collapse, hinge}
 use Rattle.surface.specs.Check.{next, others, unused, leftover, every, closed?}
-use Rattle.surface.specs.Finding.{bound, least, finding}
+use Rattle.surface.specs.Finding.{bound, smallestBelow, finding}
 use Rattle.surface.specs.declared.Finding.the-variants as found
 use Rattle.surface.specs.Euler.{sum, used, edges, euler}
 use Rattle.surface.proofs.Decision.{closed?-iff}
@@ -82,17 +82,17 @@ octahedron-euler = refl
 -- findings: the octahedron is closed; without its first triangle the side from 0 to 4 lacks its reverse; the flipped tetrahedron has the side from 2 to 3 twice;
 -- two tetrahedra that share the corner 0 are split there
 octahedron-found : finding octahedron ≡ found.Closed
-unfolding finding least bound sides around leftover unused next others octahedron
+unfolding finding smallestBelow bound sides around leftover unused next others octahedron
 octahedron-found = refl
 
 open-found : finding (without 0 octahedron) ≡ found.Lone 0 4
-unfolding finding least bound sides around leftover unused next others octahedron without
+unfolding finding smallestBelow bound sides around leftover unused next others octahedron without
 open-found = refl
 
 doubled-found : finding (flip 0 1 tetrahedron) ≡ found.Repeated 2 3
-unfolding finding least bound sides around leftover unused next others tetrahedron flip first hinge
+unfolding finding smallestBelow bound sides around leftover unused next others tetrahedron flip first hinge
 doubled-found = refl
 
 pinched-found : finding (tetrahedron ++ (tri 0 4 5 ∷ tri 4 0 6 ∷ tri 5 4 6 ∷ tri 0 5 6 ∷ [])) ≡ found.Split 0
-unfolding finding least bound sides around leftover unused next others tetrahedron
+unfolding finding smallestBelow bound sides around leftover unused next others tetrahedron
 pinched-found = refl

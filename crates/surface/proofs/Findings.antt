@@ -13,7 +13,7 @@ use Rattle.surface.specs.Triangle.{Tri}
 use Rattle.surface.specs.Closed.{sides, Step, around, InUse, Ring, Paired, Manifold}
 use Rattle.surface.specs.Check.{leftover, empty}
 use Rattle.surface.specs.PageTwelve.{Relisted}
-use Rattle.surface.specs.Finding.{IsRepeated, IsLone, IsSplit, NoneRepeated, Before, SmallestPair, Smallest, Finds, bound, least, start, end, repeated?, lone?, split?, finding}
+use Rattle.surface.specs.Finding.{IsRepeated, IsLone, IsSplit, NoneRepeated, PairBefore, SmallestPair, Smallest, Finds, bound, smallestBelow, pairStart, pairEnd, repeated?, lone?, split?, finding}
 use Rattle.surface.specs.declared.Finding.{Finding}
 use Rattle.surface.specs.declared.Finding.the-variants.{Closed, Repeated, Lone, Split}
 use Rattle.surface.proofs.Bools.{true-false, both, join}
@@ -25,36 +25,36 @@ use Rattle.surface.proofs.PageTwelve.{relisted-alike, page-twelve}
 
 -- ---- the smallest number that passes a test
 
-least-holds : (n : ℕ) (f : ℕ → Bool) → least n f < n → f (least n f) ≡ true
-unfolding least
+least-holds : (n : ℕ) (f : ℕ → Bool) → smallestBelow n f < n → f (smallestBelow n f) ≡ true
+unfolding smallestBelow
 least-holds zero f l = absurd (omega arith)
 least-holds (suc n) f l = go (f 0) refl (least-holds n (λ i. f (suc i))) l
   where
-    go : (b : Bool) → f 0 ≡ b → (least n (λ i. f (suc i)) < n → f (suc (least n (λ i. f (suc i)))) ≡ true) → cond b 0 (suc (least n (λ i. f (suc i)))) < suc n → f (cond b 0 (suc (least n (λ i. f (suc i))))) ≡ true
+    go : (b : Bool) → f 0 ≡ b → (smallestBelow n (λ i. f (suc i)) < n → f (suc (smallestBelow n (λ i. f (suc i)))) ≡ true) → cond b 0 (suc (smallestBelow n (λ i. f (suc i)))) < suc n → f (cond b 0 (suc (smallestBelow n (λ i. f (suc i))))) ≡ true
     go true e ih l = e
     go false e ih l = ih (omega arith)
 
-least-before : (n : ℕ) (f : ℕ → Bool) (i : ℕ) → i < least n f → f i ≡ false
-unfolding least
+least-before : (n : ℕ) (f : ℕ → Bool) (i : ℕ) → i < smallestBelow n f → f i ≡ false
+unfolding smallestBelow
 least-before zero f i l = absurd (omega arith)
 least-before (suc n) f i l = go (f 0) refl (least-before n (λ i. f (suc i))) i l
   where
-    go : (b : Bool) → f 0 ≡ b → ((i : ℕ) → i < least n (λ i. f (suc i)) → f (suc i) ≡ false) → (i : ℕ) → i < cond b 0 (suc (least n (λ i. f (suc i)))) → f i ≡ false
+    go : (b : Bool) → f 0 ≡ b → ((i : ℕ) → i < smallestBelow n (λ i. f (suc i)) → f (suc i) ≡ false) → (i : ℕ) → i < cond b 0 (suc (smallestBelow n (λ i. f (suc i)))) → f i ≡ false
     go true e ih i l = absurd (omega arith)
     go false e ih zero l = e
     go false e ih (suc i) l = ih i (omega arith)
 
 -- the smallest pair
 module _ (n : ℕ) (f : ℕ → ℕ → Bool) where
-  pair-holds : start n f < n → f (start n f) (end n f) ≡ true
-  pair-holds l = least-holds n (f (start n f)) (ltb-true (end n f) n (least-holds n (λ u. ltb (least n (f u)) n) l))
+  pair-holds : pairStart n f < n → f (pairStart n f) (pairEnd n f) ≡ true
+  pair-holds l = least-holds n (f (pairStart n f)) (ltb-true (pairEnd n f) n (least-holds n (λ u. ltb (smallestBelow n (f u)) n) l))
 
-  pair-none : (x y : ℕ) → x < start n f → y < n → f x y ≡ false
-  pair-none x y l k = let h = ltb-false (least n (f x)) n (least-before n (λ u. ltb (least n (f u)) n) x l) in least-before n (f x) y (omega arith)
+  pair-none : (x y : ℕ) → x < pairStart n f → y < n → f x y ≡ false
+  pair-none x y l k = let h = ltb-false (smallestBelow n (f x)) n (least-before n (λ u. ltb (smallestBelow n (f u)) n) x l) in least-before n (f x) y (omega arith)
 
-  pair-before : (x y : ℕ) → Before x y (start n f) (end n f) → y < n → f x y ≡ false
+  pair-before : (x y : ℕ) → PairBefore x y (pairStart n f) (pairEnd n f) → y < n → f x y ≡ false
   pair-before x y (inl l) k = pair-none x y l k
-  pair-before x y (inr p) k = ap (λ (u : ℕ). f u y) (p .0) ∙ least-before n (f (start n f)) y (p .1)
+  pair-before x y (inr p) k = ap (λ (u : ℕ). f u y) (p .0) ∙ least-before n (f (pairStart n f)) y (p .1)
 
 -- ---- corners are below the bound
 
@@ -153,25 +153,25 @@ module _ (ts : List Tri) where
   lone-passes : (u v : ℕ) → IsLone ts u v → lone? ts u v ≡ true
   lone-passes u v p = join (eqb (sides ts u v) 1) (eqb (sides ts v u) 0) (eq-eqb (sides ts u v) 1 (p .0)) (eq-eqb (sides ts v u) 0 (p .1))
 
-  none-repeated : ltb (start (bound ts) (repeated? ts)) (bound ts) ≡ false → NoneRepeated ts
+  none-repeated : ltb (pairStart (bound ts) (repeated? ts)) (bound ts) ≡ false → NoneRepeated ts
   none-repeated e u v p =
-      let n = ltb-false (start (bound ts) (repeated? ts)) (bound ts) e in
+      let n = ltb-false (pairStart (bound ts) (repeated? ts)) (bound ts) e in
       let l = side-low ts u v (omega arith) in
       let q = ltb-false 1 (sides ts u v) (pair-none (bound ts) (repeated? ts) u v (omega arith) (l .1)) in
       omega arith
 
-  none-lone : ltb (start (bound ts) (lone? ts)) (bound ts) ≡ false → (u v : ℕ) → IsLone ts u v → ⊥
+  none-lone : ltb (pairStart (bound ts) (lone? ts)) (bound ts) ≡ false → (u v : ℕ) → IsLone ts u v → ⊥
   none-lone e u v p =
-      let n = ltb-false (start (bound ts) (lone? ts)) (bound ts) e in
+      let n = ltb-false (pairStart (bound ts) (lone? ts)) (bound ts) e in
       let l = side-low ts u v (omega (arith, p .0)) in
       true-false (lone-passes u v p) (pair-none (bound ts) (lone? ts) u v (omega arith) (l .1))
 
-  found : (a b c : Bool) → ltb (start (bound ts) (repeated? ts)) (bound ts) ≡ a → ltb (start (bound ts) (lone? ts)) (bound ts) ≡ b → ltb (least (bound ts) (split? ts)) (bound ts) ≡ c
-      → Finds ts (cond a (Repeated (start (bound ts) (repeated? ts)) (end (bound ts) (repeated? ts))) (cond b (Lone (start (bound ts) (lone? ts)) (end (bound ts) (lone? ts))) (cond c (Split (least (bound ts) (split? ts))) Closed)))
+  found : (a b c : Bool) → ltb (pairStart (bound ts) (repeated? ts)) (bound ts) ≡ a → ltb (pairStart (bound ts) (lone? ts)) (bound ts) ≡ b → ltb (smallestBelow (bound ts) (split? ts)) (bound ts) ≡ c
+      → Finds ts (cond a (Repeated (pairStart (bound ts) (repeated? ts)) (pairEnd (bound ts) (repeated? ts))) (cond b (Lone (pairStart (bound ts) (lone? ts)) (pairEnd (bound ts) (lone? ts))) (cond c (Split (smallestBelow (bound ts) (split? ts))) Closed)))
   unfolding Finds
   found true b c e f g =
       record {
-        holds = ltb-true 1 _ (pair-holds (bound ts) (repeated? ts) (ltb-true (start (bound ts) (repeated? ts)) (bound ts) e));
+        holds = ltb-true 1 _ (pair-holds (bound ts) (repeated? ts) (ltb-true (pairStart (bound ts) (repeated? ts)) (bound ts) e));
         smallest = λ x y before p.
             let l = side-low ts x y (omega arith) in
             let q = ltb-false 1 (sides ts x y) (pair-before (bound ts) (repeated? ts) x y before (l .1)) in
@@ -180,7 +180,7 @@ module _ (ts : List Tri) where
   found false true c e f g = (
     none-repeated e,
     record {
-      holds = lone-of _ _ (pair-holds (bound ts) (lone? ts) (ltb-true (start (bound ts) (lone? ts)) (bound ts) f));
+      holds = lone-of _ _ (pair-holds (bound ts) (lone? ts) (ltb-true (pairStart (bound ts) (lone? ts)) (bound ts) f));
       smallest = λ x y before p.
           let l = side-low ts x y (omega (arith, p .0)) in
           true-false (lone-passes x y p) (pair-before (bound ts) (lone? ts) x y before (l .1));
@@ -190,13 +190,13 @@ module _ (ts : List Tri) where
       let paired = none-paired ts (none-repeated e) (none-lone f) in (
         paired,
         record {
-          holds = split-of ts paired _ (least-holds (bound ts) (split? ts) (ltb-true (least (bound ts) (split? ts)) (bound ts) g));
+          holds = split-of ts paired _ (least-holds (bound ts) (split? ts) (ltb-true (smallestBelow (bound ts) (split? ts)) (bound ts) g));
           smallest = λ x l p. p .1 (whole-of ts paired x (p .0) (least-before (bound ts) (split? ts) x l));
         },
       )
   found false false false e f g =
       let paired = none-paired ts (none-repeated e) (none-lone f) in
-      let n = ltb-false (least (bound ts) (split? ts)) (bound ts) g in
+      let n = ltb-false (smallestBelow (bound ts) (split? ts)) (bound ts) g in
       none-manifold ts paired (λ v p. let l = use-low ts v (p .0) in p .1 (whole-of ts paired v (p .0) (least-before (bound ts) (split? ts) v (omega arith))))
 
 -- `finding` computes a finding

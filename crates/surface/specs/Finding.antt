@@ -29,13 +29,13 @@ IsSplit ts v = (InUse ts v) × (Ring (around ts v) → ⊥)
 -- ---- the smallest place
 
 -- the pair x y comes before u v: by the first numbers, and by the second where those are equal
-abbrev pub Before : ℕ → ℕ → ℕ → ℕ → Type 0
-Before x y u v = (x < u) ⊎ ((x ≡ u) × (y < v))
+abbrev pub PairBefore : ℕ → ℕ → ℕ → ℕ → Type 0
+PairBefore x y u v = (x < u) ⊎ ((x ≡ u) × (y < v))
 
 -- u v is the smallest pair that P holds of
 pub record SmallestPair (P : ℕ → ℕ → Type 0) (u v : ℕ) : Type 0 where
   pub holds : P u v
-  pub smallest : (x y : ℕ) → Before x y u v → P x y → ⊥
+  pub smallest : (x y : ℕ) → PairBefore x y u v → P x y → ⊥
 
 -- v is the smallest number that P holds of
 pub record Smallest (P : ℕ → Type 0) (v : ℕ) : Type 0 where
@@ -61,16 +61,16 @@ bound [] = 0
 bound (t ∷ ts) = max (suc (t .a)) (max (suc (t .b)) (max (suc (t .c)) (bound ts)))
 
 -- the smallest number below n that passes the test, and n where none does
-unfoldable pub least : ℕ → (ℕ → Bool) → ℕ
-least zero f = 0
-least (suc n) f = cond (f 0) 0 (suc (least n (λ i. f (suc i))))
+unfoldable pub smallestBelow : ℕ → (ℕ → Bool) → ℕ
+smallestBelow zero f = 0
+smallestBelow (suc n) f = cond (f 0) 0 (suc (smallestBelow n (λ i. f (suc i))))
 
 -- the smallest pair of numbers below n that passes the test: its first number, n where there is none, and its second
-abbrev pub start : ℕ → (ℕ → ℕ → Bool) → ℕ
-start n f = least n (λ u. ltb (least n (f u)) n)
+abbrev pub pairStart : ℕ → (ℕ → ℕ → Bool) → ℕ
+pairStart n f = smallestBelow n (λ u. ltb (smallestBelow n (f u)) n)
 
-abbrev pub end : ℕ → (ℕ → ℕ → Bool) → ℕ
-end n f = least n (f (start n f))
+abbrev pub pairEnd : ℕ → (ℕ → ℕ → Bool) → ℕ
+pairEnd n f = smallestBelow n (f (pairStart n f))
 
 abbrev pub repeated? : List Tri → ℕ → ℕ → Bool
 repeated? ts u v = ltb 1 (sides ts u v)
@@ -82,9 +82,9 @@ abbrev pub split? : List Tri → ℕ → Bool
 split? ts v = not (empty (leftover (around ts v)))
 
 unfoldable pub finding : List Tri → Finding
-unfolding least bound
+unfolding smallestBelow bound
 finding ts =
     let n = bound ts in
-    cond (ltb (start n (repeated? ts)) n) (Repeated (start n (repeated? ts)) (end n (repeated? ts)))
-    (cond (ltb (start n (lone? ts)) n) (Lone (start n (lone? ts)) (end n (lone? ts)))
-    (cond (ltb (least n (split? ts)) n) (Split (least n (split? ts))) Closed))
+    cond (ltb (pairStart n (repeated? ts)) n) (Repeated (pairStart n (repeated? ts)) (pairEnd n (repeated? ts)))
+    (cond (ltb (pairStart n (lone? ts)) n) (Lone (pairStart n (lone? ts)) (pairEnd n (lone? ts)))
+    (cond (ltb (smallestBelow n (split? ts)) n) (Split (smallestBelow n (split? ts))) Closed))

@@ -10,7 +10,7 @@ use Rattle.halfedges.specs.Place.{nx, at, last, Sized, Linked}
 use Rattle.halfedges.proofs.Fine.{nx-below}
 use Rattle.halfedges.proofs.Chains.{last-le, last-names}
 use Rattle.halfedges.proofs.Turns.{sized-other}
-use Rattle.closing.specs.Locating.{Two, Least, Met}
+use Rattle.closing.specs.Locating.{Two, Least, StampsMean}
 use Rattle.closing.proofs.Locating.{stamp-linked, stamp-far, stamp-next, stamp-met, met-start, two-start, two-turn, two-repeated}
 use Rattle.closing.proofs.smallest_repeated.Statement.{statement}
 use Rattle.closing.proofs.smallest_repeated.Tie as tie
@@ -19,7 +19,7 @@ record Going (c : List ℕ) (p u : ℕ) (w₀ w : List ℕ) (q best : ℕ) : Typ
   low : q ≤ length c
   size : length w ≡ length w₀
   linked : Linked c p w (length c)
-  met : Met nx c p w u q
+  met : StampsMean nx c p w u q
   lowest : Least (Two c u q) p best
   names : (k : ℕ) → q ≡ suc k → at c k ≡ u
   far : drop (p + p + p + length c) w ≡ drop (p + p + p + length c) w₀
@@ -50,7 +50,7 @@ loop-holds c =
       low = omega (arith, e, last-le cs u (length cs));
       size = refl;
       linked = ready .linked;
-      met = subst (Met nx cs (s .args .points) (now (s .args .work)) u) (sym e) (met-start nx cs (s .args .points) (now (s .args .work)) u (ready .stamped));
+      met = subst (StampsMean nx cs (s .args .points) (now (s .args .work)) u) (sym e) (met-start nx cs (s .args .points) (now (s .args .work)) u (ready .stamped));
       lowest = subst (λ (q : ℕ). Least (Two cs u q) (s .args .points) (s .args .points)) (sym e) (two-start cs (s .args .points) u);
       names = λ k q. last-names cs u (length cs) k (sym e ∙ q);
       far = refl;
@@ -199,12 +199,12 @@ loop-again c =
     let z = x .wide2 .result in
     let inv = l .loop .inv in
     let e = next c in
-    let met = subst (Met nx cs p w u) (k-is i) (inv .met) in
+    let met = subst (StampsMean nx cs p w u) (k-is i) (inv .met) in
     record {
       low = omega (arith, e, last-le cs u k, k-low i);
       size = simp length-set (inv .size);
       linked = stamp-linked nx cs p w u k z (u + 1) (sized l) (k-low i) (names i) (x-is x) (below x) (add-one u) (inv .linked);
-      met = subst (Met nx cs p (set w (p + z + z) (u + 1)) u) (sym e) (stamp-met nx cs p w u k z (u + 1) (sized l) (k-low i) (names i) (x-is x) (below x) (add-one u) met);
+      met = subst (StampsMean nx cs p (set w (p + z + z) (u + 1)) u) (sym e) (stamp-met nx cs p w u k z (u + 1) (sized l) (k-low i) (names i) (x-is x) (below x) (add-one u) met);
       lowest = subst (λ (q : ℕ). Least (Two cs u q) p (b .lowered .result)) (sym e)
           (two-turn cs p w u k z (t .wide3 .result) (u + 1) (l .loop .best) (b .lowered .result) (k-low i) (names i) (x-is x) (below x) (t .wide3 .ensures) (add-one u) (b .lowered .ensures) met
           (subst (λ (q : ℕ). Least (Two cs u q) p (l .loop .best)) (k-is i) (inv .lowest)));

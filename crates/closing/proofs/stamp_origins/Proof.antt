@@ -10,7 +10,7 @@ use Rattle.halfedges.specs.Place.{pv, at, last, Sized, Linked}
 use Rattle.halfedges.proofs.Fine.{pv-below}
 use Rattle.halfedges.proofs.Chains.{last-le, last-names}
 use Rattle.halfedges.proofs.Turns.{sized-other}
-use Rattle.closing.specs.Locating.{Met}
+use Rattle.closing.specs.Locating.{StampsMean}
 use Rattle.closing.proofs.Locating.{stamp-linked, stamp-far, stamp-next, stamp-met, met-start}
 use Rattle.closing.proofs.stamp_origins.Statement.{statement}
 use Rattle.closing.proofs.stamp_origins.Tie as tie
@@ -19,7 +19,7 @@ record Going (c : List ℕ) (p u : ℕ) (w₀ w : List ℕ) (q : ℕ) : Type 0 w
   low : q ≤ length c
   size : length w ≡ length w₀
   linked : Linked c p w (length c)
-  met : Met pv c p w u q
+  met : StampsMean pv c p w u q
   names : (k : ℕ) → q ≡ suc k → at c k ≡ u
   far : drop (p + p + p + length c) w ≡ drop (p + p + p + length c) w₀
 
@@ -49,7 +49,7 @@ loop-holds c =
       low = omega (arith, e, last-le cs u (length cs));
       size = refl;
       linked = ready .linked;
-      met = subst (Met pv cs (s .args .points) (now (s .args .work)) u) (sym e) (met-start pv cs (s .args .points) (now (s .args .work)) u (ready .stamped));
+      met = subst (StampsMean pv cs (s .args .points) (now (s .args .work)) u) (sym e) (met-start pv cs (s .args .points) (now (s .args .work)) u (ready .stamped));
       names = λ k q. last-names cs u (length cs) k (sym e ∙ q);
       far = refl;
     }
@@ -177,12 +177,12 @@ loop-again c =
     let z = x .wide2 .result in
     let inv = l .loop .inv in
     let e = next c in
-    let met = subst (Met pv cs p w u) (k-is i) (inv .met) in
+    let met = subst (StampsMean pv cs p w u) (k-is i) (inv .met) in
     record {
       low = omega (arith, e, last-le cs u k, k-low i);
       size = simp length-set (inv .size);
       linked = stamp-linked pv cs p w u k z (u + 1) (sized l) (k-low i) (names i) (x-is x) (below x) (add-one u) (inv .linked);
-      met = subst (Met pv cs p (set w (p + z + z) (u + 1)) u) (sym e) (stamp-met pv cs p w u k z (u + 1) (sized l) (k-low i) (names i) (x-is x) (below x) (add-one u) met);
+      met = subst (StampsMean pv cs p (set w (p + z + z) (u + 1)) u) (sym e) (stamp-met pv cs p w u k z (u + 1) (sized l) (k-low i) (names i) (x-is x) (below x) (add-one u) met);
       names = λ j q. last-names cs u k j (sym e ∙ q);
       far = stamp-far pv cs p w u k z (u + 1) (sized l) (k-low i) (names i) (x-is x) (below x) (add-one u) ∙ inv .far;
     }
@@ -198,7 +198,7 @@ returns c =
     record {
       ready = record { sized = sized l; linked = inv .linked; stamped = inv .met .stamped };
       far = inv .far;
-      met = subst (Met pv (Cs l) (P l) (l .loop .work) (U l)) z (inv .met);
+      met = subst (StampsMean pv (Cs l) (P l) (l .loop .work) (U l)) z (inv .met);
     }
 
 pub stamp-origins-spec : {M : Type 1} → statement M
