@@ -13,7 +13,7 @@ use Rattle.surface.specs.Triangle.{Tri}
 use Rattle.surface.specs.Closed.{sides, Step, around, InUse, Ring, Paired, Manifold}
 use Rattle.surface.specs.Check.{leftover, empty}
 use Rattle.surface.specs.PageTwelve.{Relisted}
-use Rattle.surface.specs.Finding.{IsRepeated, IsLone, IsSplit, NoneRepeated, PairBefore, SmallestPair, Smallest, Finds, bound, smallestBelow, pairStart, pairEnd, repeated?, lone?, split?, finding}
+use Rattle.surface.specs.Finding.{IsRepeated, IsLone, IsSplit, NoneRepeated, PairBefore, SmallestPair, Smallest, Finds, bound, smallestBelow, pairStart, pairEnd, repeated?, lone?, split?, finding, FindingLaws}
 use Rattle.surface.specs.declared.Finding.{Finding}
 use Rattle.surface.specs.declared.Finding.the-variants.{Closed, Repeated, Lone, Split}
 use Rattle.surface.proofs.Bools.{true-false, both, join}
@@ -297,3 +297,6 @@ finds-relisted r (Split v) h =
 
 pub finding-order : {ts us : List Tri} → Relisted ts us → finding ts ≡ finding us
 finding-order {ts} {us} r = finds-finding us (finding ts) (finds-relisted r (finding ts) (finding-finds ts))
+
+pub finding-laws : (ts : List Tri) → FindingLaws ts
+finding-laws ts = record { computed = finding-finds ts; only = finds-finding ts; closed = finding-closed ts; order = λ us r. sym (finding-order r) }

@@ -1,14 +1,15 @@
--- What the judgement of rules (b) and (c) finds, and where (document 02, F-1). Definitions only; `proofs/Findings` shows that there is always exactly one finding and that `finding` computes it.
+-- What the judgement of rules (b) and (c) finds, and where (document 02, F-1), and what is proved of it (`finding-laws` of `proofs/Findings`). Definitions only.
 -- `Closed`: both rules hold. `Repeated` u v: the directed side from u to v occurs twice or more. `Lone` u v: it occurs and its reverse does not. `Split` v: the triangles around v are more than one ring.
 use Prim.Native.Nat.{ℕ, zero, suc, max, _<_}
 use mathlib.Core.Path.{_≡_}
-use mathlib.Core.Logic.{_⊎_}
+use mathlib.Core.Logic.{_⊎_, _↔_}
 use mathlib.Core.Bool.{Bool, _&&_, not, cond}
 use mathlib.Core.List.{List, [], _∷_}
 use lib.Dec.{eqb, ltb}
 use Rattle.surface.specs.Triangle.{Tri}
 use Rattle.surface.specs.Closed.{sides, around, InUse, Ring, Paired, Manifold}
 use Rattle.surface.specs.Check.{leftover, empty}
+use Rattle.surface.specs.PageTwelve.{Relisted}
 use Rattle.surface.specs.declared.Finding.{Finding}
 use Rattle.surface.specs.declared.Finding.the-variants.{Closed, Repeated, Lone, Split}
 
@@ -88,3 +89,14 @@ finding ts =
     cond (ltb (pairStart n (repeated? ts)) n) (Repeated (pairStart n (repeated? ts)) (pairEnd n (repeated? ts)))
     (cond (ltb (pairStart n (lone? ts)) n) (Lone (pairStart n (lone? ts)) (pairEnd n (lone? ts)))
     (cond (ltb (smallestBelow n (split? ts)) n) (Split (smallestBelow n (split? ts))) Closed))
+
+-- ---- what is proved of every list
+
+pub record FindingLaws (ts : List Tri) : Type 0 where
+  -- the function's finding fits, and no other does
+  pub computed : Finds ts (finding ts)
+  pub only : (f : Finding) → Finds ts f → f ≡ finding ts
+  -- none of the three is found exactly where (b) and (c) hold
+  pub closed : (finding ts ≡ Closed) ↔ Manifold ts
+  -- page twelve: a list and any relisting of it have the same finding
+  pub order : (us : List Tri) → Relisted ts us → finding us ≡ finding ts

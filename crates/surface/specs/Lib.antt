@@ -5,8 +5,8 @@ pub mod Triangle
 pub mod Flat
 pub mod Closed
 pub mod Check
-pub mod Finding
 pub mod PageTwelve
+pub mod Finding
 pub mod Edit
 pub mod Label
 pub mod Euler
