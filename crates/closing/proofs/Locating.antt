@@ -11,9 +11,9 @@ use lib.ListN.{length, set, drop}
 use lib.Seq.{getD-set-same, getD-set-other, drop-set-lt}
 use borrow.Author.Tests.{eqb-true, eqb-false, ltb-true, ltb-false}
 use Rattle.surface.specs.Triangle.{triangles}
-use Rattle.surface.specs.Closed.{Step, sides, around, InUse, Ring, Paired, Manifold}
+use Rattle.surface.specs.Closed.{Step, sides, around, InUse, Ring, Paired}
 use Rattle.surface.specs.Finding.{IsLone, IsSplit, NoneRepeated, PairBefore, SmallestPair, Finds}
-use Rattle.surface.specs.declared.Finding.the-variants.{Closed, Repeated, Lone, Split}
+use Rattle.surface.specs.declared.Finding.the-variants.{Repeated, Lone, Split}
 use Rattle.surface.proofs.Findings.{paired-once, none-paired}
 use Rattle.halfedges.specs.Place.{nx, pv, at, last, Sized, Linked, stamp, Stamped}
 use Rattle.halfedges.proofs.Steps.{froms, pl, around-places, sides-froms}
@@ -288,10 +288,6 @@ module _ (c : List ℕ) (p : ℕ) (thirds : length c % 3 ≡ 0) (paired : Paired
       used (yes u) = u
       used (no m) = absurd (n (fine-at v (λ u. absurd (m u))))
 
-  pub finds-split : (r : ℕ) → FirstUnringed c p 1 r → r < p → Finds (triangles c) (Split r)
+  pub finds-split : (v : ℕ) → FirstUnringed c p 1 v → Finds (triangles c) (Split v)
   unfolding Finds
-  finds-split r h l = (paired, record { holds = split-of r (λ f. h .nay l f (λ q. q)); smallest = λ x m s. not-fine x s (h .fine x m) })
-
-pub finds-closed : (c : List ℕ) → Manifold (triangles c) → Finds (triangles c) Closed
-unfolding Finds
-finds-closed c m = m
+  finds-split v h = (paired, record { holds = split-of v (λ f. h .nay f (λ q. q)); smallest = λ x m s. not-fine x s (h .fine x m) })

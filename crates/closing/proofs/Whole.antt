@@ -1,5 +1,5 @@
 -- From stage to stage of the whole check.
-use Prim.Native.Nat.{ℕ, _+_, _-_, _≤_, _<_}
+use Prim.Native.Nat.{ℕ, zero, suc, _+_, _-_, _≤_, _<_}
 use mathlib.Core.Path.{_≡_, refl, sym, ap, _∙_, subst}
 use mathlib.Core.Bool.{Bool, true, false}
 use mathlib.Core.List.{List, _++_}
@@ -15,7 +15,7 @@ use Rattle.halfedges.proofs.Fine.{Fine, fine-of, rounded-of, fine-unused, unuse
 use Rattle.halfedges.proofs.Steps.{length-pl}
 use Rattle.halfedges.proofs.Whole.{Enough}
 use Rattle.closing.specs.Closing.{needed, Lent, Zeroed}
-use Rattle.closing.specs.Stages.{used, Chained, Ready, FirstUnringed}
+use Rattle.closing.specs.Stages.{used, Chained, Ready, Unringed}
 
 pub zero-at : (n i : ℕ) (w t : List ℕ) → w ≡ replicate n 0 ++ t → i < n → at w i ≡ 0
 zero-at n i w t e l =
@@ -78,17 +78,17 @@ module _ (c : List ℕ) (p : ℕ) (w₀ : List ℕ) (given : Lent c p w₀) wher
       go false e = λ q. absurd (omega (arith, q, length-pl c v (length c), unused-past c v p (given .below) (ltb-false v p e)))
 
   -- no corner is found: all are fine, and have enough
-  module _ {m r : ℕ} (h : FirstUnringed c p m r) where
-    pub all-ringed : p ≤ r → Manifold (triangles c)
-    all-ringed l = rounded-of c (given .thirds) (all-fine (λ v k. h .fine v (omega arith)))
+  module _ {m : ℕ} {w w′ : List ℕ} {r : ℕ} (h : Unringed c p m w w′ r) where
+    pub all-ringed : r ≡ 0 → Manifold (triangles c)
+    all-ringed z = rounded-of c (given .thirds) (all-fine (h .fine z))
 
-    pub all-more : p ≤ r → (v : ℕ) → Enough c m v
-    all-more l = all-enough m (λ v k. h .more v (omega arith))
+    pub all-more : r ≡ 0 → (v : ℕ) → Enough c m v
+    all-more z = all-enough m (h .more z)
 
     -- and the other way round
-    pub none-unringed : Manifold (triangles c) → ((v : ℕ) → Enough c m v) → r ≡ p
-    none-unringed k e = go (ltb r p) refl
+    pub none-unringed : Manifold (triangles c) → ((v : ℕ) → Enough c m v) → r ≡ 0
+    none-unringed k e = go r refl
       where
-        go : (b : Bool) → ltb r p ≡ b → r ≡ p
-        go true q = absurd (h .nay (ltb-true r p q) (fine-of c (given .thirds) k r) (e r))
-        go false q = omega (arith, h .within, ltb-false r p q)
+        go : (n : ℕ) → r ≡ n → r ≡ 0
+        go zero q = q
+        go (suc v) q = absurd (h .first v q .nay (fine-of c (given .thirds) k v) (e v))

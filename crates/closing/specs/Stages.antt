@@ -41,16 +41,18 @@ pub record Judged (c : List ℕ) (p m v : ℕ) (w w′ : List ℕ) (r : Bool) : 
   pub more : r ≡ true → Enough c m v
   pub nay : r ≡ false → Fine c v → Enough c m v → ⊥
 
--- r is the first corner that is not so, and p where there is none
-pub record FirstUnringed (c : List ℕ) (p m r : ℕ) : Type 0 where
-  pub within : r ≤ p
-  pub fine : (u : ℕ) → u < r → Fine c u
-  pub more : (u : ℕ) → u < r → Enough c m u
-  pub nay : r < p → Fine c r → Enough c m r → ⊥
+-- v is the first corner that is not so
+pub record FirstUnringed (c : List ℕ) (p m v : ℕ) : Type 0 where
+  pub low : v < p
+  pub fine : (u : ℕ) → u < v → Fine c u
+  pub nay : Fine c v → Enough c m v → ⊥
 
+-- r is one more than the first such corner, and 0 where there is none
 pub record Unringed (c : List ℕ) (p m : ℕ) (w w′ : List ℕ) (r : ℕ) : Type 0 where
   pub far : drop (used c p) w′ ≡ drop (used c p) w
-  pub first : FirstUnringed c p m r
+  pub fine : r ≡ 0 → (v : ℕ) → v < p → Fine c v
+  pub more : r ≡ 0 → (v : ℕ) → v < p → Enough c m v
+  pub first : (v : ℕ) → r ≡ suc v → FirstUnringed c p m v
 
 -- rule (a) decided
 pub record Told (c : List ℕ) (r : Bool) : Type 0 where

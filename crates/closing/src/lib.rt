@@ -132,7 +132,7 @@ fn prepare(corners: &[u32], points: usize, work: &mut [u32])
     link_corners(corners, points, work);
 }
 
-// The first corner in use whose steps are not one ring of at least least steps, with no two from one corner; points where there is none.
+// One more than the first corner in use whose steps are not one ring of at least least steps, with no two from one corner; 0 where there is none.
 fn first_unringed(corners: &[u32], points: usize, least: usize, work: &mut [u32]) -> usize
     requires { ⌜ Lent (now corners) points (now work) ⌝ }
     requires { ⌜ 0 < least ⌝ }
@@ -141,13 +141,13 @@ fn first_unringed(corners: &[u32], points: usize, least: usize, work: &mut [u32]
     prepare(corners, points, work);
     let mut v: usize = 0;
     while v < points {
-        if corner_ringed(corners, points, least, v, work) {
-            v += 1; // one ring
-        } else {
+        let ringed = corner_ringed(corners, points, least, v, work);
+        v += 1;
+        if !ringed {
             return v;
         }
     }
-    points
+    0
 }
 
 // The smaller one of x and the best so far, where x is found.
@@ -253,15 +253,12 @@ fn first_side(corners: &[u32], points: usize, lone: bool, v: usize, work: &mut [
     Side::Nowhere
 }
 
-// The finding, where v is the first corner that is not one ring: a repeated side first, then a lone side, then v itself.
+// What is found where v is the first corner whose steps are not one ring: a repeated side first, then a lone side, then v itself.
 fn locate(corners: &[u32], points: usize, v: usize, work: &mut [u32]) -> Finding
     requires { ⌜ Lent (now corners) points (now work) ⌝ }
     requires { ⌜ FirstUnringed (now corners) points 1 v ⌝ }
     ensures { λ r. ⌜ Located (now (corners .entry)) points (now (work .entry)) (now (work .exit)) r ⌝ }
 {
-    if v == points {
-        return Finding::Closed;
-    }
     if let Side::Found(from, to) = first_side(corners, points, false, v, work) {
         return Finding::Repeated(from, to);
     }
@@ -278,9 +275,13 @@ pub fn finding(corners: &[u32], points: usize, work: &mut [u32]) -> Finding
     requires { ⌜ Lent (now corners) points (now work) ⌝ }
     ensures { λ r. ⌜ Judgement (now (corners .entry)) points (now (work .entry)) (now (work .exit)) r ⌝ }
 {
-    let v = first_unringed(corners, points, 1, work);
-    let found = locate(corners, points, v, work);
-    clear(work, corners.len() / 3 * 32 + points * 16);
+    let past = first_unringed(corners, points, 1, work);
+    if past == 0 {
+        clear(work, corners.len() / 3 * 32 + points * 16);
+        return Finding::Closed;
+    }
+    let found = locate(corners, points, past - 1, work);
+    clear(work, corners.len() / 3 * 32 + points * 16); // and the place is known
     found
 }
 
@@ -317,7 +318,7 @@ pub fn closed_surface(corners: &[u32], points: usize, work: &mut [u32]) -> bool
         clear(work, corners.len() / 3 * 32 + points * 16); // rule (a) fails
         return false;
     }
-    let v = first_unringed(corners, points, 3, work);
+    let past = first_unringed(corners, points, 3, work);
     clear(work, corners.len() / 3 * 32 + points * 16); // the rules are decided
-    v == points
+    past == 0
 }

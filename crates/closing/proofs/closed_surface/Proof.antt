@@ -76,14 +76,14 @@ returns-2 c =
     let p = s .args .points in
     let h = s .pre .thirds in
     let w = u .first-unringed .last .1 .1 .1 .0 in
-    let first = u .first-unringed .ensures .first in
+    let found = u .first-unringed .ensures in
     let m : length cs / 3 * 32 + p * 16 ≡ needed cs p = omega arith in
     let few : used cs p ≤ needed cs p = omega (arith, h) in
     record {
       decides = (
-        (λ q. let all = eqb-true (u .first-unringed .result) p q in
-            closed-of cs h (d .corners-differ .ensures .yea (not-false _ (t .if1 .left))) (all-ringed cs p _ (s .pre) first (omega arith)) (all-more cs p _ (s .pre) first (omega arith))),
-        λ x. eq-eqb (u .first-unringed .result) p (none-unringed cs p _ (s .pre) first (closed-rounded cs x) (closed-enough cs h x)),
+        (λ q. let none = eqb-true (u .first-unringed .result) 0 q in
+            closed-of cs h (d .corners-differ .ensures .yea (not-false _ (t .if1 .left))) (all-ringed cs p _ (s .pre) found none) (all-more cs p _ (s .pre) found none)),
+        λ x. eq-eqb (u .first-unringed .result) 0 (none-unringed cs p _ (s .pre) found (closed-rounded cs x) (closed-enough cs h x)),
       );
       zeroed = zeroed-used cs p (now (s .args .work)) w (k .clear2 .last .0) (length cs / 3 * 32 + p * 16) m (far-on (used cs p) (needed cs p) w (now (s .args .work)) few (u .first-unringed .ensures .far)) (k .clear2 .ensures);
     }

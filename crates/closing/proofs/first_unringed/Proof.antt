@@ -1,15 +1,16 @@
 -- `closing::first_unringed` meets its contract: at the loop's head the corners below v are fine.
 use Prim.Native.Nat.{ℕ, _-_, _≤_, _<_}
-use mathlib.Core.Path.{_≡_, refl, _∙_}
+use mathlib.Core.Path.{_≡_, refl, _∙_, subst}
 use mathlib.Core.List.{List}
 use native.Mathlib.Omega.{arith}
 use native.Mathlib.Numerals.{add-one}
 use lib.ListN.{length, drop}
 use denote.Ref.{now}
 use borrow.Author.Count.{below-more}
+use borrow.Author.Tests.{not-true, not-false}
 use Rattle.halfedges.proofs.Fine.{Fine}
 use Rattle.halfedges.proofs.Whole.{Enough}
-use Rattle.closing.specs.Stages.{used, Ready}
+use Rattle.closing.specs.Stages.{used, Ready, FirstUnringed}
 use Rattle.closing.proofs.first_unringed.Statement.{statement}
 use Rattle.closing.proofs.first_unringed.Tie as tie
 
@@ -49,7 +50,28 @@ corner-ringed-requires : tie.Need-corner-ringed-requires Inv-loop μ-loop
 corner-ringed-requires c κs = (c .before .before .loop .inv .ready, (c .before .loop-test .taken, start (c .before .before) .pre .1))
 
 add-v : tie.Need-add-v Inv-loop μ-loop
-add-v c = let l = in-loop (c .before) .before in omega (arith, start l .pre .0 .points)
+add-v c = let l = in-loop c .before in omega (arith, start l .pre .0 .points)
+
+same-length : tie.Need-same-length Inv-loop μ-loop
+same-length c =
+    let l = in-loop (c .before) .before in
+    asked (c .before) .corner-ringed .kept .1 .1 .1 .1 .0 ∙ l .loop .inv .size ∙ prepared l .prepare .kept .1 .1 .0
+
+returns : tie.Need-returns Inv-loop μ-loop
+returns c =
+    let d = asked (c .before) in
+    let i = in-loop (c .before) in
+    let l = i .before in
+    let s = start l in
+    let e = d .corner-ringed .ensures in
+    record {
+      far = e .far ∙ l .loop .inv .far ∙ prepared l .prepare .ensures .far;
+      fine = λ z. absurd (omega arith);
+      more = λ z. absurd (omega arith);
+      first = λ v q.
+          subst (FirstUnringed (now (s .args .corners)) (s .args .points) (s .args .least)) (let same : l .loop .v ≡ v = omega arith in same)
+          (record { low = i .loop-test .taken; fine = l .loop .inv .fine; nay = e .nay (not-true _ (c .if1 .taken)) });
+    }
 
 loop-less : tie.Need-loop-less Inv-loop μ-loop
 loop-less c = omega arith
@@ -60,28 +82,14 @@ loop-again c =
     let i = in-loop (c .before) in
     let l = i .before in
     let e = d .corner-ringed .ensures in
+    let ringed = not-false _ (c .if1 .left) in
     record {
       low = omega (arith, i .loop-test .taken);
       size = d .corner-ringed .kept .1 .1 .1 .1 .0 ∙ l .loop .inv .size;
       ready = rw add-one (e .ready);
       far = e .far ∙ l .loop .inv .far;
-      fine = below-more (Fine (now (start l .args .corners))) (l .loop .v) (l .loop .inv .fine) (e .yea (c .if1 .taken));
-      more = below-more (Enough (now (start l .args .corners)) (start l .args .least)) (l .loop .v) (l .loop .inv .more) (e .more (c .if1 .taken));
-    }
-
-same-length : tie.Need-same-length Inv-loop μ-loop
-same-length c =
-    let l = in-loop (c .before) .before in
-    asked (c .before) .corner-ringed .kept .1 .1 .1 .1 .0 ∙ l .loop .inv .size ∙ prepared l .prepare .kept .1 .1 .0
-
-returns : tie.Need-returns Inv-loop μ-loop
-returns c =
-    let d = asked (c .before) in
-    let l = in-loop (c .before) .before in
-    let e = d .corner-ringed .ensures in
-    record {
-      far = e .far ∙ l .loop .inv .far ∙ prepared l .prepare .ensures .far;
-      first = record { within = l .loop .inv .low; fine = l .loop .inv .fine; more = l .loop .inv .more; nay = λ _. e .nay (c .if1 .left) };
+      fine = below-more (Fine (now (start l .args .corners))) (l .loop .v) (l .loop .inv .fine) (e .yea ringed);
+      more = below-more (Enough (now (start l .args .corners)) (start l .args .least)) (l .loop .v) (l .loop .inv .more) (e .more ringed);
     }
 
 same-length-2 : tie.Need-same-length-2 Inv-loop μ-loop
@@ -92,12 +100,9 @@ returns-2 c =
     let l = c .before in
     record {
       far = l .loop .inv .far ∙ prepared l .prepare .ensures .far;
-      first = record {
-        within = omega arith;
-        fine = λ u h. l .loop .inv .fine u (omega arith);
-        more = λ u h. l .loop .inv .more u (omega arith);
-        nay = λ h. absurd (omega arith);
-      };
+      fine = λ _ u h. l .loop .inv .fine u (omega arith);
+      more = λ _ u h. l .loop .inv .more u (omega arith);
+      first = λ v q. absurd (omega arith);
     }
 
 pub first-unringed-spec : {M : Type 1} → statement M
@@ -110,9 +115,9 @@ first-unringed-spec =
     loop-holds
     corner-ringed-requires
     add-v
-    loop-less
-    loop-again
     same-length
     returns
+    loop-less
+    loop-again
     same-length-2
     returns-2)
