@@ -1,5 +1,5 @@
 -- The cases of the whole verdict. Assumes nothing.
-use Prim.Native.Nat.{ℕ, _+_, _*_, _/_, _≤_, _<_}
+use Prim.Native.Nat.{ℕ, _<_}
 use native.Mathlib.Omega.{arith}
 use mathlib.Core.Path.{_≡_, refl, sym, ap, ap₂, _∙_}
 use mathlib.Core.Bool.{Bool, true, false, _&&_, not, _||_, cond}
@@ -13,13 +13,13 @@ use Rattle.surface.specs.Triangle.{Tri, triangles}
 use Rattle.surface.specs.Finding.{finding}
 use Rattle.surface.specs.declared.Finding.{Finding}
 use Rattle.surface.specs.declared.Finding.the-variants as finds
-use Rattle.questions.specs.Questions.{lentQuestions, needed, cleared}
+use Rattle.questions.specs.Questions.{lentQuestions, needed, cleared, lentWords, Lends}
 use Rattle.questions.specs.Refusal.{refusalNumber, onFinding}
 use Rattle.questions.specs.declared.Refusal.{Refusal}
 use Rattle.questions.specs.declared.Refusal.the-variants.{Question}
 use Rattle.questions.specs.declared.Asked.{Asked}
 use Rattle.questions.specs.declared.Asked.the-variants as asked
-use Rattle.questions.proofs.Counted.{words-early, words-late}
+use Rattle.questions.proofs.Counted.{words-late}
 use Rattle.quality.specs.Quality.{number, degenerate}
 use Rattle.quality.proofs.Numbers.{zero-is}
 use Rattle.checking.specs.Verdict.{numberOf}
@@ -97,15 +97,11 @@ module _ (ps : List Float) (cs ls work : List ℕ) where
   unfolding validated
   by-first e = ap (λ (a : Asked). verdictAfter a (examined ps cs)) e
 
-  pub after-four : (work′ : List ℕ) (r : Verdict) → lentQuestions ps cs ls work ≡ asked.Passed → Examined ps cs work work′ r → Validated ps cs ls work work′ r
-  after-four work′ r e h = record {
-    answer = h .answer ∙ sym (by-first e);
-    words = h .words ∙ words-late ps cs work (numberOf r) (ap (lent? ps cs) (h .answer) ∙ examined-late ps cs);
+  pub after-four : {work′ work″ : List ℕ} {a : Asked} {r : Verdict} → Lends ps cs ls work work′ a → a ≡ asked.Passed → Examined ps cs work′ work″ r → Validated ps cs ls work work″ r
+  after-four {r = r} l e h = record {
+    answer = h .answer ∙ sym (by-first (sym (l .answer) ∙ e));
+    words = h .words ∙ ap (cleared (needed ps cs)) (l .words ∙ ap (λ (c : Asked). lentWords c ps cs work) e) ∙ words-late ps cs work (numberOf r) (ap (lent? ps cs) (h .answer) ∙ examined-late ps cs);
   }
 
-  module _ (why : Refusal) (e : lentQuestions ps cs ls work ≡ asked.Refused why) where
-    pub at-four : (work′ : List ℕ) → refusalNumber why ≡ 4 → work′ ≡ cleared (needed ps cs) work → Validated ps cs ls work work′ (Refused why)
-    at-four work′ four w = record { answer = sym (by-first e); words = w ∙ words-late ps cs work (refusalNumber why) (ap (λ (n : ℕ). leb 1 n && leb n 3) four) }
-
-    pub at-first : (refusalNumber why ≡ 4 → ⊥) → Validated ps cs ls work work (Refused why)
-    at-first four = record { answer = sym (by-first e); words = words-early ps cs ls work e four }
+  pub at-first : {work′ : List ℕ} {a : Asked} {why : Refusal} → Lends ps cs ls work work′ a → a ≡ asked.Refused why → Validated ps cs ls work work′ (Refused why)
+  at-first h e = record { answer = sym (by-first (sym (h .answer) ∙ e)); words = h .words ∙ ap (λ (c : Asked). lentWords c ps cs work) e }

@@ -1,7 +1,7 @@
 -- What an accepted surface has: rules (a), (b) and (c), corners on the list, a smallest quality above 0 and at most 1, and a volume that is finite and above 0.
-use Prim.Native.Nat.{ℕ, _/_, _%_, _<_}
+use Prim.Native.Nat.{ℕ, _/_, _<_}
 use native.Mathlib.Omega.{arith}
-use mathlib.Core.Path.{_≡_, refl, sym, ap, _∙_, subst}
+use mathlib.Core.Path.{_≡_, refl, sym, ap, _∙_}
 use mathlib.Core.Bool.{Bool, true, false}
 use mathlib.Core.List.{List}
 use lib.Dec.{T}
@@ -14,17 +14,16 @@ use Rattle.surface.proofs.Findings.{finding-closed}
 use Rattle.questions.specs.Questions.{lentQuestions}
 use Rattle.questions.specs.Refusal.{onFinding}
 use Rattle.questions.specs.declared.Refusal.{Refusal}
-use Rattle.questions.specs.declared.Refusal.the-variants.{Question}
 use Rattle.questions.specs.declared.Asked.{Asked}
 use Rattle.questions.specs.declared.Asked.the-variants as asked
 use Rattle.questions.proofs.Counted.{lent-passed}
 use Rattle.questions.proofs.Chain.{found-passed}
 use Rattle.quality.specs.Quality.{number, degenerate}
 use Rattle.quality.proofs.Lesser.{above-zero, kept-positive}
-use Rattle.checking.specs.Validate.{qualityAt, measured, verdictAfter, asWhole, examined, validated}
+use Rattle.checking.specs.Validate.{qualityAt, measured, asWhole, validated}
 use Rattle.checking.specs.declared.Verdict.{Verdict}
 use Rattle.checking.specs.declared.Verdict.the-variants.{Accepted, Refused}
-use Rattle.checking.proofs.Sound.{Measures, measures, corners-below}
+use Rattle.checking.proofs.Sound.{measures, corners-below}
 use Rattle.checking.proofs.Cases.{by-whole, by-first, some-triangles}
 
 abbrev at : List Tri → ℕ → Tri

@@ -15,7 +15,7 @@ use Rattle.surface.specs.Triangle.{Tri, tri, triangles}
 use Rattle.surface.proofs.Bools.{or-none}
 use Rattle.questions.specs.declared.Refusal.{Refusal}
 use Rattle.questions.specs.declared.Refusal.the-variants.{Question}
-use Rattle.quality.specs.Quality.{number, degenerate, leastWith}
+use Rattle.quality.specs.Quality.{degenerate, leastWith}
 use Rattle.quality.specs.declared.Rated.{Rated}
 use Rattle.quality.specs.declared.Rated.the-variants.{Kept, Degenerate}
 use Rattle.quality.proofs.Numbers.{zero-is, one-is}

@@ -9,7 +9,7 @@ use lib.Ieee.{Float, nan}
 use Rattle.float.specs.Order.{lesser}
 use Rattle.float.specs.Point.{plus, difference}
 use Rattle.float.specs.declared.Point.{Point}
-use Rattle.surface.specs.Triangle.{Tri, tri, triangles}
+use Rattle.surface.specs.Triangle.{Tri, triangles}
 use Rattle.surface.specs.Finding.{finding}
 use Rattle.questions.specs.Questions.{lentQuestions, workAfter}
 use Rattle.questions.specs.Refusal.{onFinding}

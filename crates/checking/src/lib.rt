@@ -159,7 +159,7 @@ fn examine(points: &[f64], corners: &[u32], work: &mut [u32]) -> Verdict
             work,
         ),
         Verdict::Refused(why) => {
-            closing::clear(work, corners.len() / 3 * 32 + points.len() / 3 * 16); // by a triangle
+            closing::clear(work, corners.len() / 3 * 32 + points.len() / 3 * 16);
             Verdict::Refused(why)
         }
     }
@@ -170,10 +170,6 @@ pub fn validate(points: &[f64], corners: &[u32], labels: &[u8], work: &mut [u32]
     ensures { λ r. ⌜ Validated (now (points .entry)) (now (corners .entry)) (now (labels .entry)) (now (work .entry)) (now (work .exit)) r ⌝ }
 {
     if let Asked::Refused(why) = questions::lent(points, corners, labels, work) {
-        if why.number() == 4 {
-            closing::clear(work, corners.len() / 3 * 32 + points.len() / 3 * 16);
-            return Verdict::Refused(why);
-        }
         return Verdict::Refused(why);
     }
     examine(points, corners, work)

@@ -15,7 +15,7 @@ use Rattle.halfedges.proofs.Fine.{Fine, fine-of, rounded-of, fine-unused, unuse
 use Rattle.halfedges.proofs.Steps.{length-pl}
 use Rattle.halfedges.proofs.Whole.{Enough}
 use Rattle.closing.specs.Closing.{needed, Lent, Zeroed}
-use Rattle.closing.specs.Stages.{used, Chained, Ready, Unringed}
+use Rattle.closing.specs.Stages.{Chained, Ready, Unringed}
 
 pub zero-at : (n i : ℕ) (w t : List ℕ) → w ≡ replicate n 0 ++ t → i < n → at w i ≡ 0
 zero-at n i w t e l =

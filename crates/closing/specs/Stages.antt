@@ -1,9 +1,9 @@
 -- What each stage of the judgement is handed, and what it leaves. Definitions only; only the proofs of `closing` read them.
-use Prim.Native.Nat.{ℕ, zero, suc, _+_, _*_, _/_, _%_, _<_, _≤_}
+use Prim.Native.Nat.{ℕ, suc, _+_, _<_, _≤_}
 use mathlib.Core.Path.{_≡_}
 use mathlib.Core.Bool.{Bool, true, false}
-use mathlib.Core.List.{List, _++_}
-use lib.ListN.{length, drop, replicate}
+use mathlib.Core.List.{List}
+use lib.ListN.{length, drop}
 use Rattle.halfedges.specs.Place.{at, Sized, Linked, stamp, Stamped, Noted, Once, uses}
 use Rattle.halfedges.proofs.Fine.{Fine}
 use Rattle.halfedges.proofs.Whole.{Enough, Differing}

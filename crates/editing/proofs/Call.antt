@@ -1,5 +1,5 @@
 -- A whole call: what each end leaves is what `EditRun` says.
-use Prim.Native.Nat.{ℕ, zero, suc, _+_, _*_, _-_, _/_, _%_, _≤_, _<_}
+use Prim.Native.Nat.{ℕ, suc, _+_, _*_, _-_, _/_, _%_, _≤_, _<_}
 use mathlib.Core.Path.{_≡_, refl, sym, _∙_, ap, ap₂, subst}
 use mathlib.Core.Bool.{Bool, true, false, _&&_}
 use mathlib.Core.List.{List, [], _∷_, _++_, append-nil}
@@ -8,9 +8,9 @@ use lib.Dec.{eqb}
 use lib.Ieee.{Float}
 use lib.ListN.{length, getD, take, drop, replicate, take-append-drop, length-replicate}
 use lib.Seq.{take-all, drop-at, drop-length, length-take-le}
-use borrow.Author.Tests.{eqb-true, eqb-false, eq-eqb, ne-eqb}
-use Rattle.surface.specs.Triangle.{Tri, tri, triangles, corners}
-use Rattle.surface.specs.Closed.{Step, step, keep, around, InUse}
+use borrow.Author.Tests.{eqb-true, eq-eqb, ne-eqb}
+use Rattle.surface.specs.Triangle.{triangles, corners}
+use Rattle.surface.specs.Closed.{step, keep, around, InUse}
 use Rattle.surface.specs.Euler.{Below}
 use Rattle.surface.specs.Flat.{held}
 use Rattle.surface.proofs.Flat.{length-triangles, corners-triangles, length-corners}
@@ -23,16 +23,14 @@ use Rattle.questions.specs.declared.Refusal.the-variants.{Question}
 use Rattle.questions.specs.declared.Asked.{Asked}
 use Rattle.questions.specs.declared.Asked.the-variants as asked
 use Rattle.questions.proofs.Laws.{passed-admitted}
-use Rattle.history.specs.History.{Pair, History, last, inForce, begun, after, verdicts}
+use Rattle.history.specs.History.{Pair, History, last, begun, after, verdicts}
 use Rattle.history.specs.Lists.{lentPair, entries, records, thenZero, historyOf}
 use Rattle.history.specs.Flat.{pairOf}
-use Rattle.history.specs.Safe.{Sound}
 use Rattle.history.specs.Entry.{needed, Good, Standing}
 use Rattle.editing.specs.Held.{Holds}
 use Rattle.editing.specs.Run.{Starting, first, Ran}
 use Rattle.editing.proofs.Held.{records-length}
 use Rattle.editing.specs.Edit.{editQuestions, answerOf, EditRun}
-use Rattle.editing.specs.declared.Outcome.{Outcome}
 use Rattle.editing.specs.declared.Outcome.the-variants.{Edited, Refused}
 
 -- the corners in use of a list are numbers of the list

@@ -1,6 +1,6 @@
 -- Demand 3: it holds of every call of `edit` that is let in, by what `edit` promises of every call and by `safe`.
 use Prim.Native.Nat.{ℕ, _/_}
-use mathlib.Core.Path.{_≡_, refl, sym, _∙_, ap}
+use mathlib.Core.Path.{_≡_, refl, sym}
 use mathlib.Core.List.{List}
 use native.Mathlib.Omega.{arith}
 use lib.ListN.{length}
@@ -13,11 +13,9 @@ use Rattle.questions.specs.declared.Asked.the-variants as asked
 use Rattle.questions.proofs.Laws.{passed-admitted, first-passed}
 use Rattle.history.specs.History.{History, last, inForce}
 use Rattle.history.specs.Lists.{lentPair, entries, capacity, historyOf}
-use Rattle.history.specs.Safe.{Sound}
 use Rattle.history.proofs.Safe.{safe}
 use Rattle.editing.specs.Edit.{editQuestions, answerOf, EditRun}
 use Rattle.editing.specs.Demand3.{Demand3}
-use Rattle.editing.specs.declared.Outcome.{Outcome}
 use Rattle.editing.specs.declared.Outcome.the-variants.{Edited, Refused}
 use Rattle.editing.proofs.Call.{thirds, used-below}
 

@@ -8,8 +8,8 @@ use mathlib.Core.List.{List, [], _∷_}
 use lib.Dec.{eqb, ltb}
 use lib.ListN.{length}
 use borrow.Author.Tests.{eqb-true, eqb-false, eq-eqb, ltb-true, ltb-false}
-use Rattle.surface.specs.Triangle.{Tri, triangles}
-use Rattle.surface.specs.Closed.{Step, step, one, around, sides, Ring, InUse, Paired, Manifold}
+use Rattle.surface.specs.Triangle.{triangles}
+use Rattle.surface.specs.Closed.{Step, one, sides, Ring, Manifold}
 use Rattle.halfedges.specs.Place.{nx, pv, at, st, Once}
 use Rattle.halfedges.proofs.Steps.{starts, ends, froms, tos, In, Place, pl, pl-in, pl-place, pl-two, sides-froms, around-places}
 use Rattle.halfedges.proofs.Perms.{leads-even, tally-perm}

@@ -23,7 +23,6 @@ use Rattle.oracle.proofs.Safe.{safe-after}
 use Rattle.flips.specs.Whole.{meshOf, sheetOf}
 use Rattle.improving.specs.Rounded.{Improvable, Rounded}
 use Rattle.improving.specs.Improve.{improveQuestions, improved, answerOf, Improving}
-use Rattle.improving.specs.declared.Outcome.{Outcome}
 use Rattle.improving.specs.declared.Outcome.the-variants.{Improved, Refused}
 use Rattle.improving.proofs.Running.{fine-first}
 

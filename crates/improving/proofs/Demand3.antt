@@ -16,7 +16,6 @@ use Rattle.oracle.proofs.Domain.{same-rounds}
 use Rattle.flips.specs.Whole.{meshOf, sheetOf}
 use Rattle.improving.specs.Improve.{improveQuestions, improved, answerOf, Improving}
 use Rattle.improving.specs.Demand3.{Demand3}
-use Rattle.improving.specs.declared.Outcome.{Outcome}
 use Rattle.improving.specs.declared.Outcome.the-variants.{Improved, Refused}
 use Rattle.improving.proofs.Running.{Fine, fine-first, fine-after}
 use Rattle.improving.proofs.Call.{improvable-of}

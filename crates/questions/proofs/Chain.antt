@@ -19,8 +19,8 @@ use Rattle.halfedges.proofs.Whole.{differ-of, differing-of}
 use Rattle.closing.specs.Closing.{Lent}
 use Rattle.closing.specs.Stages.{Told}
 use Rattle.questions.specs.Rules.{distinct?}
-use Rattle.questions.specs.Refusal.{refusalNumber, askedNumber, onFinding}
-use Rattle.questions.specs.Questions.{ask, andThen, needed, lentQuestions, known?, listed?, unopposed?, furtherQuestions, surfaceQuestions, cleared, Admits}
+use Rattle.questions.specs.Refusal.{askedNumber, onFinding}
+use Rattle.questions.specs.Questions.{ask, andThen, needed, lentQuestions, known?, listed?, unopposed?, furtherQuestions, surfaceQuestions, cleared, lentWords, Lends, Admits}
 use Rattle.questions.specs.Stages.{Sized, Listed, Further}
 use Rattle.questions.specs.declared.Refusal.{Refusal}
 use Rattle.questions.specs.declared.Refusal.the-variants.{Question}
@@ -28,7 +28,7 @@ use Rattle.questions.specs.declared.Asked.{Asked}
 use Rattle.questions.specs.declared.Asked.the-variants.{Passed, Refused}
 use Rattle.questions.proofs.All.{all-at}
 use Rattle.questions.proofs.Rules.{differ?-iff, distinct?-iff}
-use Rattle.questions.proofs.Counted.{Counted, not-both, words-early, words-late}
+use Rattle.questions.proofs.Counted.{Counted, not-both, words-late}
 
 -- what is not true is false
 pub not-so : (b : Bool) → (b ≡ true → ⊥) → b ≡ false
@@ -158,6 +158,10 @@ further-late p cs ls =
     go true true true true finds.Closed false = refl
     go true true true true finds.Closed true = refl
 
+-- as many words are lent as before
+pub sized-again : {cs ls w v : List ℕ} {p : ℕ} → length v ≡ length w → Sized cs ls p w → Sized cs ls p v
+sized-again e g = record { thirds = g .thirds; few = g .few; labelled = g .labelled; points = g .points; room = omega (arith, g .room) }
+
 -- ---- the whole
 
 module _ (ps : List Float) (cs ls work : List ℕ) where
@@ -168,15 +172,11 @@ module _ (ps : List Float) (cs ls work : List ℕ) where
   pub sized : Counted ps cs ls work → Sized cs ls (length ps / 3) work
   sized c = record { thirds = c .corners; few = omega (arith, c .corners, c .few-triangles); labelled = c .labels; points = c .few-points; room = c .room }
 
-  pub after-four : (work′ : List ℕ) (a : Asked) → lentQuestions ps cs ls work ≡ Passed → Further cs ls (length ps / 3) work work′ a → Admits ps cs ls work work′ a
-  after-four work′ a e h = record {
-    answer = h .answer ∙ sym (by-first e);
-    words = h .words ∙ words-late ps cs work (askedNumber a) (ap (λ (b : Asked). leb 1 (askedNumber b) && leb (askedNumber b) 3) (h .answer) ∙ further-late (length ps / 3) cs ls);
+  pub after-four : {work′ work″ : List ℕ} {a b : Asked} → Lends ps cs ls work work′ a → a ≡ Passed → Further cs ls (length ps / 3) work′ work″ b → Admits ps cs ls work work″ b
+  after-four {a = a} {b = b} l e h = record {
+    answer = h .answer ∙ sym (by-first (sym (l .answer) ∙ e));
+    words = h .words ∙ ap (cleared (needed ps cs)) (l .words ∙ ap (λ (c : Asked). lentWords c ps cs work) e) ∙ words-late ps cs work (askedNumber b) (ap (λ (c : Asked). leb 1 (askedNumber c) && leb (askedNumber c) 3) (h .answer) ∙ further-late (length ps / 3) cs ls);
   }
 
-  module _ (why : Refusal) (e : lentQuestions ps cs ls work ≡ Refused why) where
-    pub at-four : (work′ : List ℕ) → refusalNumber why ≡ 4 → work′ ≡ cleared (needed ps cs) work → Admits ps cs ls work work′ (Refused why)
-    at-four work′ four w = record { answer = sym (by-first e); words = w ∙ words-late ps cs work (refusalNumber why) (ap (λ (n : ℕ). leb 1 n && leb n 3) four) }
-
-    pub at-first : (refusalNumber why ≡ 4 → ⊥) → Admits ps cs ls work work (Refused why)
-    at-first four = record { answer = sym (by-first e); words = words-early ps cs ls work e four }
+  pub at-first : {work′ : List ℕ} {a : Asked} {why : Refusal} → Lends ps cs ls work work′ a → a ≡ Refused why → Admits ps cs ls work work′ (Refused why)
+  at-first h e = record { answer = sym (by-first (sym (h .answer) ∙ e)); words = h .words ∙ ap (λ (b : Asked). lentWords b ps cs work) e }

@@ -1,5 +1,5 @@
 -- Questions 1 to 4: what they come to by the tests, and what each number says of the lent lists.
-use Prim.Native.Nat.{ℕ, _+_, _*_, _/_, _%_, _≤_, _<_}
+use Prim.Native.Nat.{ℕ, _/_, _%_, _≤_, _<_}
 use native.Mathlib.Omega.{arith}
 use mathlib.Core.Path.{_≡_, refl, sym, ap, _∙_}
 use mathlib.Core.Bool.{Bool, true, false, _&&_, cond}
@@ -74,13 +74,13 @@ module _ (ps : List Float) (cs ls work : List ℕ) where
 
 -- ---- what they come to
 
-pub data Lends (ps : List Float) (cs ls work : List ℕ) : Type 0 where
-  early : (n : ℕ) → 1 ≤ n → n ≤ 3 → lentQuestions ps cs ls work ≡ Refused (Question n) → Lends ps cs ls work
-  infinite : Counted ps cs ls work → every isFinite ps ≡ false → lentQuestions ps cs ls work ≡ Refused (Question 4) → Lends ps cs ls work
-  passes : Counted ps cs ls work → every isFinite ps ≡ true → lentQuestions ps cs ls work ≡ Passed → Lends ps cs ls work
+pub data FirstFour (ps : List Float) (cs ls work : List ℕ) : Type 0 where
+  early : (n : ℕ) → 1 ≤ n → n ≤ 3 → lentQuestions ps cs ls work ≡ Refused (Question n) → FirstFour ps cs ls work
+  infinite : Counted ps cs ls work → every isFinite ps ≡ false → lentQuestions ps cs ls work ≡ Refused (Question 4) → FirstFour ps cs ls work
+  passes : Counted ps cs ls work → every isFinite ps ≡ true → lentQuestions ps cs ls work ≡ Passed → FirstFour ps cs ls work
 
-pub lends : (ps : List Float) (cs ls work : List ℕ) → Lends ps cs ls work
-lends ps cs ls work = go (threes ps cs ls work) refl (few ps cs ls work) refl (enough ps cs ls work) refl (every isFinite ps) refl
+pub first-four : (ps : List Float) (cs ls work : List ℕ) → FirstFour ps cs ls work
+first-four ps cs ls work = go (threes ps cs ls work) refl (few ps cs ls work) refl (enough ps cs ls work) refl (every isFinite ps) refl
   where
     counted : threes ps cs ls work ≡ true → few ps cs ls work ≡ true → enough ps cs ls work ≡ true → Counted ps cs ls work
     counted p q r =
@@ -96,7 +96,7 @@ lends ps cs ls work = go (threes ps cs ls work) refl (few ps cs ls work) refl (e
           room = leb-true (needed ps cs) (length work) r;
         }
 
-    go : (a : Bool) → threes ps cs ls work ≡ a → (b : Bool) → few ps cs ls work ≡ b → (c : Bool) → enough ps cs ls work ≡ c → (d : Bool) → every isFinite ps ≡ d → Lends ps cs ls work
+    go : (a : Bool) → threes ps cs ls work ≡ a → (b : Bool) → few ps cs ls work ≡ b → (c : Bool) → enough ps cs ls work ≡ c → (d : Bool) → every isFinite ps ≡ d → FirstFour ps cs ls work
     go false p b q c r d s = early 1 (omega arith) (omega arith) (by-tests ps cs ls work p q r s)
     go true p false q c r d s = early 2 (omega arith) (omega arith) (by-tests ps cs ls work p q r s)
     go true p true q false r d s = early 3 (omega arith) (omega arith) (by-tests ps cs ls work p q r s)
@@ -109,27 +109,27 @@ not-both e f = let z : _≡_ {A = ℕ} 0 1 = cc in omega arith
 
 module _ (ps : List Float) (cs ls work : List ℕ) where
   pub lent-passed : lentQuestions ps cs ls work ≡ Passed → (Counted ps cs ls work) × (every isFinite ps ≡ true)
-  lent-passed e = go (lends ps cs ls work)
+  lent-passed e = go (first-four ps cs ls work)
     where
-      go : Lends ps cs ls work → (Counted ps cs ls work) × (every isFinite ps ≡ true)
+      go : FirstFour ps cs ls work → (Counted ps cs ls work) × (every isFinite ps ≡ true)
       go (early n p q f) = absurd (not-both e f)
       go (infinite c s f) = absurd (not-both e f)
       go (passes c s f) = (c, s)
 
   module _ {why : Refusal} (e : lentQuestions ps cs ls work ≡ Refused why) where
     pub lent-four : refusalNumber why ≡ 4 → Counted ps cs ls work
-    lent-four four = go (lends ps cs ls work)
+    lent-four four = go (first-four ps cs ls work)
       where
-        go : Lends ps cs ls work → Counted ps cs ls work
+        go : FirstFour ps cs ls work → Counted ps cs ls work
         go (early n p q f) = let g : n ≡ refusalNumber why = ap askedNumber (sym f ∙ e) in absurd (omega arith)
         go (infinite c s f) = c
         go (passes c s f) = absurd (not-both f e)
 
-    -- after 1 to 3 the work words stay as lent, after another number they are cleared
+    -- after 1 to 3 the work words stay as lent, after 4 they are cleared
     pub words-early : (refusalNumber why ≡ 4 → ⊥) → work ≡ workAfter (refusalNumber why) ps cs work
-    words-early four = go (lends ps cs ls work)
+    words-early four = go (first-four ps cs ls work)
       where
-        go : Lends ps cs ls work → work ≡ workAfter (refusalNumber why) ps cs work
+        go : FirstFour ps cs ls work → work ≡ workAfter (refusalNumber why) ps cs work
         go (early m p q f) =
             let n = refusalNumber why in
             let g : m ≡ n = ap askedNumber (sym f ∙ e) in

@@ -1,6 +1,6 @@
 -- The questions say what they ask: `surfaceQuestions` is `Passed` exactly where the surface is `Admitted`. (`distinct?-iff` of `Rules` does the same for the test of rule (d), `finding-closed` of `surface` for (b) and (c).)
 use Prim.Native.Nat.{ℕ, _/_}
-use mathlib.Core.Path.{_≡_, refl, sym, ap, _∙_}
+use mathlib.Core.Path.{_≡_, refl, sym, _∙_}
 use mathlib.Core.Logic.{_↔_}
 use mathlib.Core.Bool.{Bool, true, false}
 use mathlib.Core.List.{List}
@@ -17,7 +17,6 @@ use Rattle.questions.specs.Rules.{distinct?}
 use Rattle.questions.specs.Refusal.{onFinding}
 use Rattle.questions.specs.Questions.{ask, andThen, lentQuestions, furtherQuestions, surfaceQuestions}
 use Rattle.questions.specs.Admitted.{Admitted}
-use Rattle.questions.specs.declared.Refusal.{Refusal}
 use Rattle.questions.specs.declared.Asked.{Asked}
 use Rattle.questions.specs.declared.Asked.the-variants.{Passed, Refused}
 use Rattle.questions.proofs.All.{all-at, at-all}

@@ -13,7 +13,7 @@ use Rattle.surface.specs.Finding.{finding}
 use Rattle.surface.specs.Label.{carries}
 use Rattle.questions.specs.Rules.{distinct?}
 use Rattle.questions.specs.Labels.{opposed}
-use Rattle.questions.specs.Refusal.{askedNumber, onFinding}
+use Rattle.questions.specs.Refusal.{refusalNumber, askedNumber, onFinding}
 use Rattle.questions.specs.declared.Refusal.the-variants.{Question}
 use Rattle.questions.specs.declared.Asked.{Asked}
 use Rattle.questions.specs.declared.Asked.the-variants.{Passed, Refused}
@@ -79,6 +79,15 @@ cleared n work = replicate n 0 ++ drop n work
 
 abbrev pub workAfter : ℕ → List Float → List ℕ → List ℕ → List ℕ
 workAfter number points corners work = cond (leb 1 number && leb number 3) work (cleared (needed points corners) work)
+
+-- what `lent` promises of every call: questions 1 to 4 are asked, and where one refuses, the work words are as after its number
+abbrev pub lentWords : Asked → List Float → List ℕ → List ℕ → List ℕ
+lentWords Passed points corners work = work
+lentWords (Refused why) points corners work = workAfter (refusalNumber why) points corners work
+
+pub record Lends (points : List Float) (corners labels work work′ : List ℕ) (asked : Asked) : Type 0 where
+  pub answer : asked ≡ lentQuestions points corners labels work
+  pub words : work′ ≡ lentWords asked points corners work
 
 -- what `admitted` promises of every call: its answer and the work words
 pub record Admits (points : List Float) (corners labels work work′ : List ℕ) (asked : Asked) : Type 0 where

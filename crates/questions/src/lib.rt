@@ -7,7 +7,7 @@ ghost use Rattle.float.specs.Order.{isFinite};
 ghost use Rattle.halfedges.specs.Place.{at};
 ghost use Rattle.surface.specs.Check.{every};
 ghost use Rattle.questions.specs.Refusal.{refusalNumber, refusalPlace, onFinding};
-ghost use Rattle.questions.specs.Questions.{lentQuestions, known?, listed?, Admits};
+ghost use Rattle.questions.specs.Questions.{lentQuestions, known?, listed?, Lends, Admits};
 ghost use Rattle.questions.specs.Stages.{Sized, Listed, opp, Marked, BeforeRules, Further};
 
 // Why a call is refused: the number of the question that it fails, or what is found in question 7's turn.
@@ -76,7 +76,7 @@ fn all_finite(points: &[f64]) -> bool
 }
 
 // Questions 1 to 4.
-pub fn lent(points: &[f64], corners: &[u32], labels: &[u8], work: &[u32]) -> Asked
+fn first_four(points: &[f64], corners: &[u32], labels: &[u8], work: &[u32]) -> Asked
     ensures { λ r. ⌜ r ≡ lentQuestions (now (points .entry)) (now (corners .entry)) (now (labels .entry)) (now (work .entry)) ⌝ }
 {
     if points.len() % 3 != 0 {
@@ -101,6 +101,20 @@ pub fn lent(points: &[f64], corners: &[u32], labels: &[u8], work: &[u32]) -> Ask
         return Asked::Passed;
     }
     Asked::Refused(Refusal::Question(4))
+}
+
+// Questions 1 to 4. After 4 the needed words are 0.
+pub fn lent(points: &[f64], corners: &[u32], labels: &[u8], work: &mut [u32]) -> Asked
+    ensures { λ r. ⌜ Lends (now (points .entry)) (now (corners .entry)) (now (labels .entry)) (now (work .entry)) (now (work .exit)) r ⌝ }
+{
+    let Asked::Refused(why) = first_four(points, corners, labels, work) else {
+        return Asked::Passed;
+    };
+    if why.number() == 4 {
+        closing::clear(work, corners.len() / 3 * 32 + points.len() / 3 * 16);
+        return Asked::Refused(why);
+    }
+    Asked::Refused(why)
 }
 
 // Whether every label is at most 7.
@@ -220,10 +234,6 @@ pub fn admitted(points: &[f64], corners: &[u32], labels: &[u8], work: &mut [u32]
     ensures { λ r. ⌜ Admits (now (points .entry)) (now (corners .entry)) (now (labels .entry)) (now (work .entry)) (now (work .exit)) r ⌝ }
 {
     if let Asked::Refused(why) = lent(points, corners, labels, work) {
-        if why.number() == 4 {
-            closing::clear(work, corners.len() / 3 * 32 + points.len() / 3 * 16);
-            return Asked::Refused(why);
-        }
         return Asked::Refused(why);
     }
     further(corners, labels, points.len() / 3, work)

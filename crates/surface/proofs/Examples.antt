@@ -2,7 +2,6 @@
 use mathlib.Core.Path.{_≡_, refl}
 use mathlib.Core.Bool.{true, false}
 use mathlib.Core.List.{List, [], _∷_, _++_}
-use lib.ListN.{length}
 use lib.IntN.{pos}
 use Rattle.surface.specs.Triangle.{Tri, tri}
 use Rattle.surface.specs.Closed.{sides, around, Closed}
@@ -10,7 +9,7 @@ use Rattle.surface.specs.Edit.{first, flip, without, collapse, hinge}
 use Rattle.surface.specs.Check.{next, others, unused, leftover, every, closed?}
 use Rattle.surface.specs.Finding.{bound, smallestBelow, finding}
 use Rattle.surface.specs.declared.Finding.the-variants as found
-use Rattle.surface.specs.Euler.{sum, used, edges, euler}
+use Rattle.surface.specs.Euler.{sum, euler}
 use Rattle.surface.proofs.Decision.{closed?-iff}
 
 tetrahedron : List Tri

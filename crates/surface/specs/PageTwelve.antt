@@ -1,5 +1,4 @@
 -- Page twelve of the user's manual: "the order of the triangles does not affect whether the surface closes". Definitions only; the theorem is `page-twelve` of `proofs/PageTwelve`; that it does not affect where a surface is open either is a law of `Finding`.
-use mathlib.Core.Path.{_≡_}
 use mathlib.Core.Logic.{_↔_}
 use mathlib.Core.List.{List, [], _∷_, List·Permᴰ}
 use Rattle.surface.specs.Triangle.{Tri, tri}

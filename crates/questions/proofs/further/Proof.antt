@@ -11,9 +11,8 @@ use Rattle.closing.specs.Closing.{needed as words}
 use Rattle.closing.proofs.Whole.{far-clear}
 use Rattle.questions.specs.Refusal.{onFinding}
 use Rattle.questions.specs.Questions.{cleared}
-use Rattle.questions.specs.Stages.{Sized}
 use Rattle.questions.proofs.Counted.{cleared-same}
-use Rattle.questions.proofs.Chain.{before-stops, Fit, before-fit, lent, closed-passed, open-found, twice-twelve}
+use Rattle.questions.proofs.Chain.{before-stops, Fit, before-fit, lent, closed-passed, open-found, twice-twelve, sized-again}
 use Rattle.questions.proofs.further.Statement.{statement}
 use Rattle.questions.proofs.further.Tie as tie
 
@@ -30,9 +29,6 @@ before c = c .before .before .before .before
 
 fit : (c : tie.After-enum-told) → Fit (start (before c) .args .points) (now (start (before c) .args .corners)) (now (start (before c) .args .labels))
 fit c = before-fit _ _ _ (sym (before c .before-rules .ensures .answer) ∙ c .enum-told .given .1)
-
-resized : {cs ls w v : List ℕ} {p : ℕ} → length v ≡ length w → Sized cs ls p w → Sized cs ls p v
-resized e g = record { thirds = g .thirds; few = g .few; labelled = g .labelled; points = g .points; room = omega (arith, g .room) }
 
 before-rules-requires : tie.Need-before-rules-requires
 before-rules-requires c κs = search needs
@@ -75,7 +71,7 @@ enum-told c = search needs
 closed-surface-requires : tie.Need-closed-surface-requires
 closed-surface-requires c κs =
     let e = c .before in
-    lent _ _ _ (fit e) (resized (before e .before-rules .kept .1 .1 .1 .0) (start (before e) .pre))
+    lent _ _ _ (fit e) (sized-again (before e .before-rules .kept .1 .1 .1 .0) (start (before e) .pre))
 
 same-length-2 : tie.Need-same-length-2
 same-length-2 c = search needs
@@ -95,7 +91,7 @@ finding-requires : tie.Need-finding-requires
 finding-requires c κs =
     let k = c .before .before .before .before in
     let e = k .before .before in
-    lent _ _ _ (fit e) (resized (k .closed-surface .kept .1 .1 .0 ∙ before e .before-rules .kept .1 .1 .1 .0) (start (before e) .pre))
+    lent _ _ _ (fit e) (sized-again (k .closed-surface .kept .1 .1 .0 ∙ before e .before-rules .kept .1 .1 .1 .0) (start (before e) .pre))
 
 on-finding-requires : tie.Need-on-finding-requires
 on-finding-requires c κs = search needs

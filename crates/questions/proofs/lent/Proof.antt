@@ -1,63 +1,107 @@
--- `questions::lent` meets its contract: each way out is a question's number.
-use Prim.Native.Nat.{_≤_, _<_}
-use mathlib.Core.Path.{_≡_, sym, _∙_}
+-- `questions::lent` meets its contract: after 4 the needed words are cleared, and only then.
+use Prim.Native.Nat.{ℕ, _+_, _*_, _/_}
+use mathlib.Core.Path.{_≡_, refl, sym, ap, _∙_}
+use mathlib.Core.Bool.{_&&_}
 use native.Mathlib.Omega.{arith}
+use lib.Dec.{leb}
 use lib.ListN.{length}
 use borrow.Author.Needs.{needs}
-use Rattle.questions.specs.Questions.{needed}
-use Rattle.questions.proofs.Counted.{no-points, no-corners, no-labels, many-points, many-triangles, no-room, asked-finite}
+use denote.Ref.{now}
+use Rattle.questions.specs.Questions.{needed, workAfter}
+use Rattle.questions.proofs.Counted.{Counted, lent-four, words-early, words-late, cleared-same}
 use Rattle.questions.proofs.lent.Statement.{statement}
 use Rattle.questions.proofs.lent.Tie as tie
 
+abbrev start : tie.After-first-four → tie.Start
+start f = f .before .before .before .before .before .before
+
+-- a question refuses, and its number is known
+abbrev refused : tie.After-number → tie.After-why
+refused n = n .before .before
+
+abbrev asked : tie.After-number → tie.After-first-four
+asked n = refused n .before .before
+
+-- where only question 4 was answered by "no", the lists are counted
+counted : (c : tie.Then1) →
+    let s = start (asked (c .before)) in
+    Counted (now (s .args .points)) (now (s .args .corners)) (now (s .args .labels)) (now (s .args .work))
+counted c = let n = c .before in lent-four _ _ _ _ (sym (asked n .first-four .ensures) ∙ refused n .why .given .1) (sym (n .number .ensures) ∙ c .if1 .taken)
+
+first-four-requires : tie.Need-first-four-requires
+first-four-requires c κs = search needs
+
+enum-known-why : tie.Need-enum-known-why
+enum-known-why c = search needs
+
+enum-told : tie.Need-enum-told
+enum-told c = search needs
+
+same-length : tie.Need-same-length
+same-length c = search needs
+
 returns : tie.Need-returns
-returns c = no-points _ _ _ _ (c .if1 .taken)
+returns c = record { answer = sym (c .enum-told .given .1) ∙ c .before .before .first-four .ensures; words = refl }
+
+number-requires : tie.Need-number-requires
+number-requires c κs = search needs
+
+mul-clear : tie.Need-mul-clear
+mul-clear c = let g = counted (c .before) in search needs
+
+mul-clear-2 : tie.Need-mul-clear-2
+mul-clear-2 c = search needs
+
+add-clear : tie.Need-add-clear
+add-clear c = let g = counted (c .before) in search needs
+
+clear-requires : tie.Need-clear-requires
+clear-requires c κs = let g = counted (c .before) in search needs
+
+same-length-2 : tie.Need-same-length-2
+same-length-2 c = search needs
 
 returns-2 : tie.Need-returns-2
-returns-2 c = no-corners _ _ _ _ (search needs) (c .if2 .taken)
+returns-2 c =
+    let w = c .before .before in
+    let t = w .before .before in
+    let n = t .before in
+    let s = start (asked n) in
+    let ps = now (s .args .points) in
+    let cs = now (s .args .corners) in
+    let same : length cs / 3 * 32 + length ps / 3 * 16 ≡ needed ps cs = omega arith in
+    record {
+      answer = sym (refused n .why .given .1) ∙ asked n .first-four .ensures;
+      words =
+          cleared-same (now (s .args .work)) same (w .clear .ensures)
+          ∙ words-late ps cs (now (s .args .work)) (n .number .result) (ap (λ (k : ℕ). leb 1 k && leb k 3) (t .if1 .taken))
+          ∙ ap (λ (k : ℕ). workAfter k ps cs (now (s .args .work))) (n .number .ensures);
+    }
+
+same-length-3 : tie.Need-same-length-3
+same-length-3 c = search needs
 
 returns-3 : tie.Need-returns-3
-returns-3 c = no-labels _ _ _ _ (search needs) (search needs) (c .if3 .taken)
-
-returns-4 : tie.Need-returns-4
-returns-4 c = many-points _ _ _ _ (search needs) (search needs) (search needs) (search needs)
-
-returns-5 : tie.Need-returns-5
-returns-5 c = many-triangles _ _ _ _ (search needs) (search needs) (search needs) (search needs) (search needs)
-
-mul-if6 : tie.Need-mul-if6
-mul-if6 c = search needs
-
-mul-if6-2 : tie.Need-mul-if6-2
-mul-if6-2 c = search needs
-
-add-if6 : tie.Need-add-if6
-add-if6 c = search needs
-
-returns-6 : tie.Need-returns-6
-returns-6 c = no-room _ _ _ _ (search needs) (search needs) (search needs) (search needs) (search needs) (search needs)
-
-all-finite-requires : tie.Need-all-finite-requires
-all-finite-requires c κs = search needs
-
-returns-7 : tie.Need-returns-7
-returns-7 c = asked-finite _ _ _ _ (search needs) (search needs) (search needs) (search needs) (search needs) (search needs) (sym (c .before .all-finite .ensures) ∙ c .if7 .taken)
-
-returns-8 : tie.Need-returns-8
-returns-8 c = asked-finite _ _ _ _ (search needs) (search needs) (search needs) (search needs) (search needs) (search needs) (sym (c .before .all-finite .ensures) ∙ c .if7 .left)
+returns-3 c =
+    let n = c .before in
+    let e = sym (asked n .first-four .ensures) ∙ refused n .why .given .1 in
+    record { answer = sym e; words = words-early _ _ _ _ e (λ four. c .if1 .left (n .number .ensures ∙ four)) }
 
 pub lent-spec : {M : Type 1} → statement M
 lent-spec =
     tie.close
     (tie.spec
+    first-four-requires
+    enum-known-why
+    enum-told
+    same-length
     returns
+    number-requires
+    mul-clear
+    mul-clear-2
+    add-clear
+    clear-requires
+    same-length-2
     returns-2
-    returns-3
-    returns-4
-    returns-5
-    mul-if6
-    mul-if6-2
-    add-if6
-    returns-6
-    all-finite-requires
-    returns-7
-    returns-8)
+    same-length-3
+    returns-3)
