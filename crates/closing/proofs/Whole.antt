@@ -15,7 +15,7 @@ use Rattle.halfedges.proofs.Fine.{Fine, fine-of, rounded-of, fine-unused, unuse
 use Rattle.halfedges.proofs.Steps.{length-pl}
 use Rattle.halfedges.proofs.Whole.{Enough}
 use Rattle.closing.specs.Closing.{needed, Lent, Zeroed}
-use Rattle.closing.specs.Stages.{Chained, Ready, Unringed}
+use Rattle.closing.specs.Stages.{Chained, Ready, PastUnringed}
 
 pub zero-at : (n i : ℕ) (w t : List ℕ) → w ≡ replicate n 0 ++ t → i < n → at w i ≡ 0
 zero-at n i w t e l =
@@ -36,6 +36,10 @@ far-clear n w d e = ap (drop n) e ∙ drop-at (replicate n 0) (drop n d) n (leng
 -- the lent words are used, then cleared
 pub zeroed-used : (c : List ℕ) (p : ℕ) (w₀ w₁ w₂ : List ℕ) (n : ℕ) → n ≡ needed c p → drop (needed c p) w₁ ≡ drop (needed c p) w₀ → w₂ ≡ replicate n 0 ++ drop n w₁ → Zeroed c p w₀ w₂
 zeroed-used c p w₀ w₁ w₂ n en far e = e ∙ ap (λ (k : ℕ). replicate k 0 ++ drop k w₁) en ∙ ap (λ (t : List ℕ). replicate (needed c p) 0 ++ t) far
+
+-- the lent words are cleared twice
+pub zeroed-again : (c : List ℕ) (p : ℕ) (w₀ w₁ w₂ : List ℕ) → Zeroed c p w₀ w₁ → Zeroed c p w₁ w₂ → Zeroed c p w₀ w₂
+zeroed-again c p w₀ w₁ w₂ e f = zeroed-used c p w₀ w₁ w₂ (needed c p) refl (far-clear (needed c p) w₁ w₀ e) f
 
 -- as many words are lent as before
 pub lent-again : {c : List ℕ} {p : ℕ} {w w′ : List ℕ} → length w′ ≡ length w → Lent c p w → Lent c p w′
@@ -78,7 +82,7 @@ module _ (c : List ℕ) (p : ℕ) (w₀ : List ℕ) (given : Lent c p w₀) wher
       go false e = λ q. absurd (omega (arith, q, length-pl c v (length c), unused-past c v p (given .below) (ltb-false v p e)))
 
   -- no corner is found: all are fine, and have enough
-  module _ {m : ℕ} {w w′ : List ℕ} {r : ℕ} (h : Unringed c p m w w′ r) where
+  module _ {m r : ℕ} (h : PastUnringed c p m r) where
     pub all-ringed : r ≡ 0 → Manifold (triangles c)
     all-ringed z = rounded-of c (given .thirds) (all-fine (h .fine z))
 

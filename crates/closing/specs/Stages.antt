@@ -7,6 +7,7 @@ use lib.ListN.{length, drop}
 use Rattle.halfedges.specs.Place.{at, Sized, Linked, stamp, Stamped, Noted, Once, uses}
 use Rattle.halfedges.proofs.Fine.{Fine}
 use Rattle.halfedges.proofs.Whole.{Enough, Differing}
+use Rattle.closing.specs.Closing.{Zeroed}
 
 -- how many words the judgement uses: a head, a stamp and a note for each point, a link for each place
 abbrev pub used : List ℕ → ℕ → ℕ
@@ -48,11 +49,18 @@ pub record FirstUnringed (c : List ℕ) (p m v : ℕ) : Type 0 where
   pub nay : Fine c v → Enough c m v → ⊥
 
 -- r is one more than the first such corner, and 0 where there is none
-pub record Unringed (c : List ℕ) (p m : ℕ) (w w′ : List ℕ) (r : ℕ) : Type 0 where
-  pub far : drop (used c p) w′ ≡ drop (used c p) w
+pub record PastUnringed (c : List ℕ) (p m r : ℕ) : Type 0 where
   pub fine : r ≡ 0 → (v : ℕ) → v < p → Fine c v
   pub more : r ≡ 0 → (v : ℕ) → v < p → Enough c m v
   pub first : (v : ℕ) → r ≡ suc v → FirstUnringed c p m v
+
+pub record Unringed (c : List ℕ) (p m : ℕ) (w w′ : List ℕ) (r : ℕ) : Type 0 where
+  pub far : drop (used c p) w′ ≡ drop (used c p) w
+  pub past : PastUnringed c p m r
+
+pub record Settled (c : List ℕ) (p m : ℕ) (w w′ : List ℕ) (r : ℕ) : Type 0 where
+  pub zeroed : Zeroed c p w w′
+  pub past : PastUnringed c p m r
 
 -- rule (a) decided
 pub record Told (c : List ℕ) (r : Bool) : Type 0 where

@@ -15,7 +15,7 @@ ghost use lib.ListN.{length, drop, replicate};
 ghost use Rattle.halfedges.specs.Place.{at, hopTo, trip, Sized, Inside};
 ghost use Rattle.surface.specs.Triangle.{triangles};
 ghost use Rattle.closing.specs.Closing.{Lent, Judgement, ClosedDecided};
-ghost use Rattle.closing.specs.Stages.{Chained, Ready, Entered, Judged, FirstUnringed, Unringed, Told};
+ghost use Rattle.closing.specs.Stages.{Chained, Ready, Entered, Judged, FirstUnringed, Unringed, Settled, Told};
 ghost use Rattle.closing.specs.Locating.{lower, Least, Unmet, Prepared, OriginsStamped, EndSought, NoneBelow, SideSought, Located};
 
 // The first count words become 0.
@@ -134,11 +134,10 @@ fn prepare(corners: &[u32], points: usize, work: &mut [u32])
 
 // One more than the first corner in use whose steps are not one ring of at least least steps, with no two from one corner; 0 where there is none.
 fn first_unringed(corners: &[u32], points: usize, least: usize, work: &mut [u32]) -> usize
-    requires { ⌜ Lent (now corners) points (now work) ⌝ }
+    requires { ⌜ Ready (now corners) points (now work) 0 ⌝ }
     requires { ⌜ 0 < least ⌝ }
     ensures { λ r. ⌜ Unringed (now (corners .entry)) points least (now (work .entry)) (now (work .exit)) r ⌝ }
 {
-    prepare(corners, points, work);
     let mut v: usize = 0;
     while v < points {
         let ringed = corner_ringed(corners, points, least, v, work);
@@ -148,6 +147,18 @@ fn first_unringed(corners: &[u32], points: usize, least: usize, work: &mut [u32]
         }
     }
     0
+}
+
+// The same of lent words, which are 0 afterwards.
+fn settle(corners: &[u32], points: usize, least: usize, work: &mut [u32]) -> usize
+    requires { ⌜ Lent (now corners) points (now work) ⌝ }
+    requires { ⌜ 0 < least ⌝ }
+    ensures { λ r. ⌜ Settled (now (corners .entry)) points least (now (work .entry)) (now (work .exit)) r ⌝ }
+{
+    prepare(corners, points, work);
+    let past = first_unringed(corners, points, least, work);
+    clear(work, corners.len() / 3 * 32 + points * 16); // the corners are judged
+    past
 }
 
 // The smaller one of x and the best so far, where x is found.
@@ -275,13 +286,12 @@ pub fn finding(corners: &[u32], points: usize, work: &mut [u32]) -> Finding
     requires { ⌜ Lent (now corners) points (now work) ⌝ }
     ensures { λ r. ⌜ Judgement (now (corners .entry)) points (now (work .entry)) (now (work .exit)) r ⌝ }
 {
-    let past = first_unringed(corners, points, 1, work);
+    let past = settle(corners, points, 1, work);
     if past == 0 {
-        clear(work, corners.len() / 3 * 32 + points * 16);
         return Finding::Closed;
     }
     let found = locate(corners, points, past - 1, work);
-    clear(work, corners.len() / 3 * 32 + points * 16); // and the place is known
+    clear(work, corners.len() / 3 * 32 + points * 16);
     found
 }
 
@@ -318,7 +328,5 @@ pub fn closed_surface(corners: &[u32], points: usize, work: &mut [u32]) -> bool
         clear(work, corners.len() / 3 * 32 + points * 16); // rule (a) fails
         return false;
     }
-    let past = first_unringed(corners, points, 3, work);
-    clear(work, corners.len() / 3 * 32 + points * 16); // the rules are decided
-    past == 0
+    settle(corners, points, 3, work) == 0
 }

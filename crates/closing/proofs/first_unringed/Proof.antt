@@ -28,34 +28,28 @@ Inv-loop corners points least work₀ v₀ work v = Going corners points least w
 abbrev μ-loop : tie.MeasureT-loop
 μ-loop corners points least work₀ v₀ work v = points - v
 
-prepare-requires : tie.Need-prepare-requires Inv-loop μ-loop
-prepare-requires c κs = c .before .before .before .pre .0
-
 loop-holds : tie.Need-loop-holds Inv-loop μ-loop
-loop-holds c = record { low = omega arith; size = refl; ready = c .before .before .prepare .ensures .ready; far = refl; fine = λ u l. absurd (omega arith); more = λ u l. absurd (omega arith) }
-
-abbrev prepared : tie.At-loop Inv-loop μ-loop → tie.After-prepare Inv-loop μ-loop
-prepared l = l .before .before .before
+loop-holds c = record { low = omega arith; size = refl; ready = c .before .before .pre .0; far = refl; fine = λ u l. absurd (omega arith); more = λ u l. absurd (omega arith) }
 
 abbrev start : tie.At-loop Inv-loop μ-loop → tie.Start Inv-loop μ-loop
-start l = prepared l .before .before .before .before
+start l = l .before .before .before
 
-abbrev asked : tie.After-slice-known3 Inv-loop μ-loop → tie.After-corner-ringed Inv-loop μ-loop
+abbrev asked : tie.After-slice-known2 Inv-loop μ-loop → tie.After-corner-ringed Inv-loop μ-loop
 asked c = c .before .before
 
-abbrev in-loop : tie.After-slice-known3 Inv-loop μ-loop → tie.In-loop Inv-loop μ-loop
+abbrev in-loop : tie.After-slice-known2 Inv-loop μ-loop → tie.In-loop Inv-loop μ-loop
 in-loop c = asked c .before .before
 
 corner-ringed-requires : tie.Need-corner-ringed-requires Inv-loop μ-loop
 corner-ringed-requires c κs = (c .before .before .loop .inv .ready, (c .before .loop-test .taken, start (c .before .before) .pre .1))
 
 add-v : tie.Need-add-v Inv-loop μ-loop
-add-v c = let l = in-loop c .before in omega (arith, start l .pre .0 .points)
+add-v c = let l = in-loop c .before in omega (arith, l .loop .inv .ready .sized .points)
 
 same-length : tie.Need-same-length Inv-loop μ-loop
 same-length c =
     let l = in-loop (c .before) .before in
-    asked (c .before) .corner-ringed .kept .1 .1 .1 .1 .0 ∙ l .loop .inv .size ∙ prepared l .prepare .kept .1 .1 .0
+    asked (c .before) .corner-ringed .kept .1 .1 .1 .1 .0 ∙ l .loop .inv .size
 
 returns : tie.Need-returns Inv-loop μ-loop
 returns c =
@@ -65,12 +59,14 @@ returns c =
     let s = start l in
     let e = d .corner-ringed .ensures in
     record {
-      far = e .far ∙ l .loop .inv .far ∙ prepared l .prepare .ensures .far;
-      fine = λ z. absurd (omega arith);
-      more = λ z. absurd (omega arith);
-      first = λ v q.
-          subst (FirstUnringed (now (s .args .corners)) (s .args .points) (s .args .least)) (let same : l .loop .v ≡ v = omega arith in same)
-          (record { low = i .loop-test .taken; fine = l .loop .inv .fine; nay = e .nay (not-true _ (c .if1 .taken)) });
+      far = e .far ∙ l .loop .inv .far;
+      past = record {
+        fine = λ z. absurd (omega arith);
+        more = λ z. absurd (omega arith);
+        first = λ v q.
+            subst (FirstUnringed (now (s .args .corners)) (s .args .points) (s .args .least)) (let same : l .loop .v ≡ v = omega arith in same)
+            (record { low = i .loop-test .taken; fine = l .loop .inv .fine; nay = e .nay (not-true _ (c .if1 .taken)) });
+      };
     }
 
 loop-less : tie.Need-loop-less Inv-loop μ-loop
@@ -93,16 +89,14 @@ loop-again c =
     }
 
 same-length-2 : tie.Need-same-length-2 Inv-loop μ-loop
-same-length-2 c = let l = c .before in l .loop .inv .size ∙ prepared l .prepare .kept .1 .1 .0
+same-length-2 c = let l = c .before in l .loop .inv .size
 
 returns-2 : tie.Need-returns-2 Inv-loop μ-loop
 returns-2 c =
     let l = c .before in
     record {
-      far = l .loop .inv .far ∙ prepared l .prepare .ensures .far;
-      fine = λ _ u h. l .loop .inv .fine u (omega arith);
-      more = λ _ u h. l .loop .inv .more u (omega arith);
-      first = λ v q. absurd (omega arith);
+      far = l .loop .inv .far;
+      past = record { fine = λ _ u h. l .loop .inv .fine u (omega arith); more = λ _ u h. l .loop .inv .more u (omega arith); first = λ v q. absurd (omega arith) };
     }
 
 pub first-unringed-spec : {M : Type 1} → statement M
@@ -111,7 +105,6 @@ first-unringed-spec =
     (tie.spec
     Inv-loop
     μ-loop
-    prepare-requires
     loop-holds
     corner-ringed-requires
     add-v
