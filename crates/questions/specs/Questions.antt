@@ -64,6 +64,7 @@ furtherQuestions p corners labels =
     (ask (listed? p corners) 5
     (ask (every differ? (triangles corners)) 10
     (ask (unopposed? corners labels) 11
+    -- in question 7's turn: what is found of (b) and (c)
     (andThen (onFinding (finding (triangles corners)))
     (ask (distinct? (triangles corners)) 12 Passed)))))
 

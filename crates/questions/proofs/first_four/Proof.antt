@@ -1,10 +1,6 @@
 -- `questions::first_four` meets its contract: each way out is a question's number.
-use Prim.Native.Nat.{_≤_, _<_}
-use mathlib.Core.Path.{_≡_, sym, _∙_}
-use native.Mathlib.Omega.{arith}
-use lib.ListN.{length}
+use mathlib.Core.Path.{sym, _∙_}
 use borrow.Author.Needs.{needs}
-use Rattle.questions.specs.Questions.{needed}
 use Rattle.questions.proofs.Counted.{no-points, no-corners, no-labels, many-points, many-triangles, no-room, asked-finite}
 use Rattle.questions.proofs.first_four.Statement.{statement}
 use Rattle.questions.proofs.first_four.Tie as tie
