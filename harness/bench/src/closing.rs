@@ -66,12 +66,9 @@ fn ours(surface: &Surface, work: &mut [u32]) -> u32 {
     }
 }
 
-/// The judgement of a closed surface, and what the answers 31, 32 and 33 take in its place: the least
-/// of so many calls, in turn.
+/// The judgement of a closed surface, and what the answers 31, 32 and 33 take in its place; then a
+/// whole run of editing without entries, and one that is refused. The least of so many calls, in turn.
 fn open_table() {
-    println!();
-    println!("| the judgement | closed, µs | 31, µs | ratio | 32, µs | ratio | 33, µs | ratio |");
-    println!("|---|---|---|---|---|---|---|---|");
     let mut shuffled = torus(128, 127);
     shuffled.relist(&mut Random::new(1));
     shuffled.renumber(&mut Random::new(1), 0);
@@ -81,50 +78,82 @@ fn open_table() {
         ("sphere", sphere(5)),
         ("bipyramid", bipyramid(16_382)),
     ];
-    let mut piece = tetrahedron();
-    piece.shift([9.0; 3]);
-    for (name, surface) in &surfaces {
-        let last = (surface.triangle_count(), surface.point_count() as u32);
-        measure_open(name, "first", surface, &piece, (0, 4));
-        measure_open(name, "last", surface, &piece, last);
+    for (what, times) in [
+        ("the judgement", judgements as Times),
+        ("an edit run", edits),
+    ] {
+        println!();
+        println!("| {what} | closed, µs | 31, µs | ratio | 32, µs | ratio | 33, µs | ratio |");
+        println!("|---|---|---|---|---|---|---|---|");
+        for (name, surface) in &surfaces {
+            let last = surface.triangle_count();
+            measure_open(name, "first", joined(&piece(), surface, 0), times);
+            measure_open(name, "last", joined(surface, &piece(), last), times);
+        }
     }
 }
 
-/// A tetrahedron stands before the surface or behind it; then its first triangle is turned round or
-/// gone, or the two pieces touch at a corner. `(triangle, corner)`: its first triangle, and the first
-/// corner of the piece that comes second.
-fn measure_open(
-    name: &str,
-    end: &str,
-    surface: &Surface,
-    piece: &Surface,
-    (triangle, corner): (usize, u32),
-) {
-    let (before, behind) = if triangle == 0 {
-        (piece, surface)
-    } else {
-        (surface, piece)
-    };
-    let mut closed = before.clone();
-    closed.join(behind);
+/// A closed surface, and the same with the findings 31, 32 and 33.
+type Subjects = [Surface; 4];
+
+/// What each of them takes.
+type Times = fn(&Subjects) -> [f64; 4];
+
+/// A tetrahedron, to stand before a surface or behind it; then its first triangle is turned round or
+/// gone, or the two pieces touch at a corner.
+fn piece() -> Surface {
+    let mut piece = tetrahedron();
+    piece.shift([9.0; 3]);
+    piece
+}
+
+/// Two pieces, the first triangle of the tetrahedron among them at a place of the list.
+fn joined(first: &Surface, second: &Surface, triangle: usize) -> Subjects {
+    let mut closed = first.clone();
+    closed.join(second);
     let [mut turned, mut gone, mut touching] = [0; 3].map(|_| closed.clone());
     turned.corners.swap(3 * triangle, 3 * triangle + 1);
     gone.remove(triangle);
+    let corner = first.point_count() as u32;
     touching.rename(corner, corner - 1);
+    [closed, turned, gone, touching]
+}
 
-    let damaged = damaged(&closed);
-    let subjects = [&damaged, &closed, &turned, &gone, &touching];
-    for (surface, number) in subjects.into_iter().zip([6, 0, 31, 32, 33]) {
+fn judgements(subjects: &Subjects) -> [f64; 4] {
+    let damaged = damaged(&subjects[0]);
+    let without = time(&damaged, ours);
+    let [closed, turned, gone, touching] = subjects.each_ref().map(|surface| time(surface, ours));
+    let [without, times @ ..] = leasts(CALLS, [&without, &closed, &turned, &gone, &touching]);
+    times.map(|time| time - without)
+}
+
+fn edits(subjects: &Subjects) -> [f64; 4] {
+    let calls = subjects.each_ref().map(|surface| {
+        once(
+            || (surface.clone(), vec![1; surface.work_words()]),
+            |(surface, work)| {
+                let Surface {
+                    points,
+                    corners,
+                    labels,
+                } = surface;
+                lanovishel::edit(points, corners, labels, work, &[], &mut [], &mut [])
+            },
+        )
+    });
+    leasts(CALLS, calls.each_ref().map(|call| call as _))
+}
+
+fn measure_open(name: &str, end: &str, subjects: Subjects, times: Times) {
+    for (surface, number) in subjects.iter().zip([0, 31, 32, 33]) {
         let mut work = vec![1; surface.work_words()];
         assert_eq!(ours(surface, &mut work), number);
     }
-    let times = subjects.map(|surface| time(surface, ours));
-    let [without, times @ ..] = leasts(CALLS, times.each_ref().map(|call| call as _));
-    let [judgement, open @ ..] = times.map(|time| time - without);
-    let cells = open.map(|open| format!("{open:.0} | {:.2}", open / judgement));
-    let triangles = closed.triangle_count();
+    let triangles = subjects[0].triangle_count();
+    let [closed, open @ ..] = times(&subjects);
+    let cells = open.map(|open| format!("{open:.0} | {:.2}", open / closed));
     println!(
-        "| {name}, {triangles} triangles, open at its {end} corners | {judgement:.0} | {} |",
+        "| {name}, {triangles} triangles, open at its {end} corners | {closed:.0} | {} |",
         cells.join(" | ")
     );
 }
