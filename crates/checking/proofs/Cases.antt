@@ -27,7 +27,7 @@ use Rattle.checking.specs.Validate.{measured, verdictAfter, asWhole, exa
 use Rattle.checking.specs.Stages.{Examined}
 use Rattle.checking.specs.declared.Verdict.{Verdict}
 use Rattle.checking.specs.declared.Verdict.the-variants.{Accepted, Refused}
-use Rattle.checking.proofs.Sound.{measured-late}
+use Rattle.checking.proofs.Sound.{never, measured-late}
 
 -- ---- questions 7 and 8
 
@@ -63,32 +63,36 @@ module _ (ps : List Float) (cs : List ℕ) where
   unfolding examined
   some-triangles n = sym (ap (λ (b : Bool). cond b (Accepted (number 0) (number 0)) (asWhole (triangles cs) (measured ps cs))) (ne-eqb (length cs) 0 n))
 
-  -- none of their numbers is 1, 2 or 3
+  -- a refusal by them has a number above 4
+  pub examined-some : (why : Refusal) → examined ps cs ≡ Refused why → 4 < refusalNumber why
+  unfolding examined
+  examined-some why e = go (eqb (length cs) 0) (measured ps cs) refl e
+    where
+      whole : (q v : Float) (f : Finding) (d : Bool) → verdictAfter (onFinding f) (cond d (Refused (Question 8)) (Accepted q v)) ≡ Refused why → 4 < refusalNumber why
+      whole q v finds.Closed true e = let n = ap numberOf e in omega arith
+      whole q v finds.Closed false e = absurd (never (sym e))
+      whole q v (finds.Repeated x y) d e = let n = ap numberOf e in omega arith
+      whole q v (finds.Lone x y) d e = let n = ap numberOf e in omega arith
+      whole q v (finds.Split x) d e = let n = ap numberOf e in omega arith
+
+      go : (b : Bool) (x : Verdict) → measured ps cs ≡ x → cond b (Accepted (number 0) (number 0)) (asWhole (triangles cs) x) ≡ Refused why → 4 < refusalNumber why
+      go true x m e = absurd (never (sym e))
+      go false (Refused w) m e = omega (arith, measured-late ps cs w m, ap numberOf e)
+      go false (Accepted q v) m e = whole q v (finding (triangles cs)) (degenerate v) e
+
   abbrev lent? : Verdict → Bool
   lent? x = leb 1 (numberOf x) && leb (numberOf x) 3
 
   pub examined-late : lent? (examined ps cs) ≡ false
-  unfolding examined
-  examined-late = go (eqb (length cs) 0) (measured ps cs) refl
+  examined-late = go (examined ps cs) refl
     where
-      whole : (q v : Float) (f : Finding) (d : Bool) → lent? (verdictAfter (onFinding f) (cond d (Refused (Question 8)) (Accepted q v))) ≡ false
-      whole q v finds.Closed true = refl
-      whole q v finds.Closed false = refl
-      whole q v (finds.Repeated x y) d = refl
-      whole q v (finds.Lone x y) d = refl
-      whole q v (finds.Split x) d = refl
-
-      late : (k : ℕ) → 4 < k → (leb 1 k && leb k 3) ≡ false
-      late k l = go2 (leb 1 k)
+      go : (x : Verdict) → examined ps cs ≡ x → lent? x ≡ false
+      go (Accepted q v) e = refl
+      go (Refused why) e = late (leb 1 (refusalNumber why))
         where
-          go2 : (b : Bool) → (b && leb k 3) ≡ false
-          go2 true = lt-leb k 3 (omega arith)
-          go2 false = refl
-
-      go : (b : Bool) (x : Verdict) → measured ps cs ≡ x → lent? (cond b (Accepted (number 0) (number 0)) (asWhole (triangles cs) x)) ≡ false
-      go true x e = refl
-      go false (Accepted q v) e = whole q v (finding (triangles cs)) (degenerate v)
-      go false (Refused why) e = late (refusalNumber why) (measured-late ps cs why e)
+          late : (b : Bool) → (b && leb (refusalNumber why) 3) ≡ false
+          late true = lt-leb (refusalNumber why) 3 (omega (arith, examined-some why e))
+          late false = refl
 
 -- ---- the whole
 

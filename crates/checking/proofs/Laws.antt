@@ -12,19 +12,21 @@ use Rattle.surface.specs.Closed.{around, Ring, InUse, Differ, Paired}
 use Rattle.surface.specs.Finding.{finding}
 use Rattle.surface.proofs.Findings.{finding-closed}
 use Rattle.questions.specs.Questions.{lentQuestions}
-use Rattle.questions.specs.Refusal.{onFinding}
+use Rattle.questions.specs.Refusal.{refusalNumber, askedNumber, onFinding}
 use Rattle.questions.specs.declared.Refusal.{Refusal}
 use Rattle.questions.specs.declared.Asked.{Asked}
 use Rattle.questions.specs.declared.Asked.the-variants as asked
-use Rattle.questions.proofs.Counted.{lent-passed}
+use Rattle.questions.proofs.Counted.{not-both, lent-passed}
 use Rattle.questions.proofs.Chain.{found-passed}
+use Rattle.questions.proofs.Telling.{lent-telling}
 use Rattle.quality.specs.Quality.{number, degenerate}
 use Rattle.quality.proofs.Lesser.{above-zero, kept-positive}
+use Rattle.checking.specs.Verdict.{numberOf}
 use Rattle.checking.specs.Validate.{qualityAt, measured, asWhole, validated}
 use Rattle.checking.specs.declared.Verdict.{Verdict}
 use Rattle.checking.specs.declared.Verdict.the-variants.{Accepted, Refused}
-use Rattle.checking.proofs.Sound.{measures, corners-below}
-use Rattle.checking.proofs.Cases.{by-whole, by-first, some-triangles}
+use Rattle.checking.proofs.Sound.{never, measures, corners-below}
+use Rattle.checking.proofs.Cases.{by-whole, some-triangles, examined-some, by-first}
 
 abbrev at : List Tri → ℕ → Tri
 at ts i = getD ts i (tri 0 0 0)
@@ -44,10 +46,6 @@ pub record Sound (points : List Float) (corners : List ℕ) (quality volume : Fl
   -- 0 < volume
   pub encloses : T (lt (number 0) volume)
 
--- a refusal is no acceptance
-never : {A : Type 0} {why : Refusal} {q v : Float} → Refused why ≡ Accepted q v → A
-never e = let z : _≡_ {A = ℕ} 0 1 = cc in absurd (omega arith)
-
 -- the last two questions are answered by "yes"
 record Yes (ts : List Tri) (x : Verdict) (q v : Float) : Type 0 where
   same : x ≡ Accepted q v
@@ -55,12 +53,12 @@ record Yes (ts : List Tri) (x : Verdict) (q v : Float) : Type 0 where
   kept : degenerate v ≡ false
 
 whole-yes : (ts : List Tri) (x : Verdict) (q v : Float) → asWhole ts x ≡ Accepted q v → Yes ts x q v
-whole-yes ts (Refused why) q v e = never e
+whole-yes ts (Refused why) q v e = absurd (never e)
 whole-yes ts (Accepted q' v') q v e = go (onFinding (finding ts)) refl (degenerate v') refl
   where
     go : (a : Asked) → onFinding (finding ts) ≡ a → (d : Bool) → degenerate v' ≡ d → Yes ts (Accepted q' v') q v
-    go (asked.Refused why) p d g = never (sym (by-whole ts q' v' p g) ∙ e)
-    go asked.Passed p true g = never (sym (by-whole ts q' v' p g) ∙ e)
+    go (asked.Refused why) p d g = absurd (never (sym (by-whole ts q' v' p g) ∙ e))
+    go asked.Passed p true g = absurd (never (sym (by-whole ts q' v' p g) ∙ e))
     go asked.Passed p false g =
         let u : Accepted q' v' ≡ Accepted q v = sym (by-whole ts q' v' p g) ∙ e in
         let same : v' ≡ v = cc in
@@ -73,7 +71,7 @@ module _ (ps : List Float) (cs ls work : List ℕ) (q v : Float) (e : validated 
     where
       go : (a : Asked) → lentQuestions ps cs ls work ≡ a → lentQuestions ps cs ls work ≡ asked.Passed
       go asked.Passed p = p
-      go (asked.Refused why) p = never (sym (by-first ps cs ls work p) ∙ e)
+      go (asked.Refused why) p = absurd (never (sym (by-first ps cs ls work p) ∙ e))
 
   -- and with at least one triangle the others
   pub sound : 0 < length cs → Sound ps cs q v
@@ -92,3 +90,11 @@ module _ (ps : List Float) (cs ls work : List ℕ) (q v : Float) (e : validated 
         smallest = λ i l. m .every i l .bounds;
         encloses = above-zero v (kept-positive v (y .kept));
       }
+
+-- the number is 0 only where the surface is accepted
+pub refused-some : (ps : List Float) (cs ls work : List ℕ) (why : Refusal) → validated ps cs ls work ≡ Refused why → refusalNumber why ≡ 0 → ⊥
+refused-some ps cs ls work why e z = go (lentQuestions ps cs ls work) refl
+  where
+    go : (a : Asked) → lentQuestions ps cs ls work ≡ a → ⊥
+    go asked.Passed p = omega (arith, z, examined-some ps cs why (sym (by-first ps cs ls work p) ∙ e))
+    go (asked.Refused w) p = not-both (lent-telling ps cs ls work (ap askedNumber p ∙ ap numberOf (sym (by-first ps cs ls work p) ∙ e) ∙ z)) p

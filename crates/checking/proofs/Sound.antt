@@ -60,8 +60,9 @@ pub record Taken (ps : List Float) (least : Float) (t : Tri) : Type 0 where
   pub corners : Differ t
   pub bounds : T (le least (qualityAt ps t))
 
-never : (k : Refusal) (m v : Float) → Refused k ≡ Accepted m v → ⊥
-never k m v e = let z : _≡_ {A = ℕ} 0 1 = cc in omega arith
+-- a refusal is no acceptance
+pub never : {why : Refusal} {q v : Float} → Refused why ≡ Accepted q v → ⊥
+never e = let z : _≡_ {A = ℕ} 0 1 = cc in omega arith
 
 first-or : (ps : List Float) (least : Float) (t : Tri) (ts : List Tri) → Taken ps least t → ((i : ℕ) → i < length ts → Taken ps least (getD ts i (tri 0 0 0))) → (i : ℕ) → i < length (t ∷ ts) → Taken ps least (getD (t ∷ ts) i (tri 0 0 0))
 first-or ps least t ts h k zero l = h
@@ -89,12 +90,12 @@ all-taken ps m v (t ∷ ts) m' v' M e = elim (cases ps m v t) [
             })
             (r .2),
       )
-  | inr g ↦ absurd (never (Question (g .why)) m' v' (sym (ap (λ (s : Verdict). foldl (next ps) s ts) (g .goes) ∙ refused ps (Question (g .why)) ts) ∙ e))
+  | inr g ↦ absurd (never (sym (ap (λ (s : Verdict). foldl (next ps) s ts) (g .goes) ∙ refused ps (Question (g .why)) ts) ∙ e))
 ]
 
 -- a refusal by a triangle is 5 or 6
 pub late : (ps : List Float) (m v : Float) (ts : List Tri) (why : Refusal) → foldl (next ps) (Accepted m v) ts ≡ Refused why → 4 < refusalNumber why
-late ps m v [] why e = absurd (never why m v (sym e))
+late ps m v [] why e = absurd (never (sym e))
 late ps m v (t ∷ ts) why e = elim (cases ps m v t) [
   | inl g ↦ late ps _ _ ts why (sym (ap (λ (s : Verdict). foldl (next ps) s ts) (g .goes)) ∙ e)
   | inr g ↦

@@ -1,21 +1,26 @@
 -- Demand 3 of the rounds: it holds of every call of `improve` that is let in, by what `improve` promises of every call and by the theorems on rounds.
 use Prim.Native.Nat.{ℕ, _/_, _≤_}
-use mathlib.Core.Path.{_≡_, refl}
+use mathlib.Core.Path.{_≡_, refl, sym, ap, _∙_}
 use mathlib.Core.List.{List}
 use native.Mathlib.Omega.{arith}
+use lib.Dec.{leb}
 use lib.ListN.{length}
 use lib.Ieee.{Float}
-use Rattle.questions.specs.Questions.{surfaceQuestions}
+use Rattle.field.specs.Valid.{sheetOk}
+use Rattle.questions.specs.Questions.{ask, surfaceQuestions}
+use Rattle.questions.specs.Refusal.{askedNumber}
 use Rattle.questions.specs.Admitted.{Admitted}
 use Rattle.questions.specs.declared.Asked.{Asked}
 use Rattle.questions.specs.declared.Asked.the-variants as asked
 use Rattle.questions.proofs.Laws.{passed-admitted, first-passed}
+use Rattle.questions.proofs.Telling.{Telling, passed-telling, ask-telling, then-telling, surface-telling}
 use Rattle.oracle.specs.Round.{Result, count}
 use Rattle.oracle.proofs.Safe.{safe-after}
 use Rattle.oracle.proofs.Domain.{same-rounds}
 use Rattle.flips.specs.Whole.{meshOf, sheetOf}
-use Rattle.improving.specs.Improve.{improveQuestions, improved, answerOf, Improving}
+use Rattle.improving.specs.Improve.{numberOf, improveQuestions, improved, answerOf, Improving}
 use Rattle.improving.specs.Demand3.{Demand3}
+use Rattle.improving.specs.declared.Outcome.{Outcome}
 use Rattle.improving.specs.declared.Outcome.the-variants.{Improved, Refused}
 use Rattle.improving.proofs.Running.{Fine, fine-first, fine-after}
 use Rattle.improving.proofs.Call.{improvable-of}
@@ -24,6 +29,26 @@ use Rattle.improving.proofs.Call.{improvable-of}
 let-in : (q : Asked) (p t k : ℕ) (r : Result) → Improved p t k ≡ answerOf q r → (q ≡ asked.Passed) × (p ≡ count (r .mesh)) × (t ≡ length (r .mesh .pair .tris)) × (k ≡ r .flips)
 let-in asked.Passed p t k r e = (refl, (cc), (cc), (cc))
 let-in (asked.Refused why) p t k r e = let z : _≡_ {A = ℕ} 0 1 = cc in absurd (omega arith)
+
+-- the number is 0 only where the call is let in, so demand 3 holds of every call that is answered by 0
+number-is : (q : Asked) (r : Result) → numberOf (answerOf q r) ≡ askedNumber q
+number-is asked.Passed r = refl
+number-is (asked.Refused why) r = refl
+
+improve-telling : (points : List Float) (corners labels work : List ℕ) (coefficients : List Float) (powers : List ℕ) (levels bounds : List Float) (n : ℕ) → Telling (improveQuestions points corners labels work coefficients powers levels bounds n)
+unfolding improveQuestions
+improve-telling points corners labels work coefficients powers levels bounds n =
+    then-telling (surfaceQuestions points corners labels work) (ask (sheetOk coefficients powers levels bounds) 13 (ask (leb n 1000) 14 asked.Passed))
+    (surface-telling points corners labels work)
+    (ask-telling (sheetOk coefficients powers levels bounds) 13 (ask (leb n 1000) 14 asked.Passed) (omega arith) (ask-telling (leb n 1000) 14 asked.Passed (omega arith) passed-telling))
+
+pub zero-improved : {points₀ : List Float} {corners₀ labels₀ work₀ : List ℕ} {coefficients : List Float} {powers : List ℕ} {levels bounds : List Float} {n : ℕ} {points₁ : List Float} {corners₁ labels₁ work₁ : List ℕ} {r : Outcome}
+    → Improving points₀ corners₀ labels₀ work₀ coefficients powers levels bounds n points₁ corners₁ labels₁ work₁ r → numberOf r ≡ 0
+    → let made = improved points₀ corners₀ labels₀ coefficients powers n in r ≡ Improved (count (made .mesh)) (length (made .mesh .pair .tris)) (made .flips)
+zero-improved {points₀} {corners₀} {labels₀} {work₀} {coefficients} {powers} {levels} {bounds} {n} r z =
+    let q = improveQuestions points₀ corners₀ labels₀ work₀ coefficients powers levels bounds n in
+    let made = improved points₀ corners₀ labels₀ coefficients powers n in
+    r .answer ∙ ap (λ (a : Asked). answerOf a made) (improve-telling points₀ corners₀ labels₀ work₀ coefficients powers levels bounds n (sym (number-is q made) ∙ ap numberOf (sym (r .answer)) ∙ z))
 
 module _ {points₀ : List Float} {corners₀ labels₀ work₀ : List ℕ} {coefficients : List Float} {powers : List ℕ} {levels bounds : List Float} {n : ℕ} {points₁ : List Float} {corners₁ labels₁ work₁ : List ℕ} {p t k : ℕ}
     (r : Improving points₀ corners₀ labels₀ work₀ coefficients powers levels bounds n points₁ corners₁ labels₁ work₁ (Improved p t k)) where
