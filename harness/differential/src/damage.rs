@@ -174,7 +174,8 @@ fn two_corners_made_one(surface: &mut Surface, random: &mut Random) {
 
 /// A further piece, with the label of the triangle at whose corner it is.
 fn piece_touching_at_a_corner(surface: &mut Surface, random: &mut Random) {
-    let place = any_place(surface, random);
+    // Of a whole triangle.
+    let place = any_place(surface, random).min(3 * surface.labels.len() - 1);
     let (corner, first) = (surface.corners[place], surface.point_count() as u32);
     let mut piece = octahedron();
     piece.labels.fill(surface.labels[place / 3]);
