@@ -1,5 +1,5 @@
 -- What a turn of each loop leaves that finds the place of an open surface, and what the stages make of it together.
-use Prim.Native.Nat.{ℕ, suc, _+_, _%_, _<_, _≤_}
+use Prim.Native.Nat.{ℕ, suc, _%_, _<_, _≤_}
 use native.Mathlib.Omega.{arith}
 use native.Mathlib.Decide.{decLt, ℕ-discrete}
 use mathlib.Core.Path.{_≡_, refl, sym, ap, _∙_, subst}
@@ -7,23 +7,23 @@ use mathlib.Core.Logic.{_⊎_, inl, inr, ⊎-elim}
 use mathlib.Core.Bool.{Bool, true, false, not, cond}
 use mathlib.Core.List.{List}
 use lib.Dec.{eqb, ltb}
-use lib.ListN.{length, set, drop}
-use lib.Seq.{getD-set-same, getD-set-other, drop-set-lt}
+use lib.ListN.{length}
 use borrow.Author.Tests.{eqb-true, eqb-false, ltb-true, ltb-false}
 use Rattle.surface.specs.Triangle.{triangles}
 use Rattle.surface.specs.Closed.{Step, sides, around, InUse, Ring, Paired}
 use Rattle.surface.specs.Finding.{IsLone, IsSplit, NoneRepeated, PairBefore, SmallestPair, Finds}
 use Rattle.surface.specs.declared.Finding.the-variants.{Repeated, Lone, Split}
 use Rattle.surface.proofs.Findings.{paired-once, none-paired}
-use Rattle.halfedges.specs.Place.{nx, pv, at, last, Sized, Linked, stamp, Stamped}
+use Rattle.halfedges.specs.Place.{nx, pv, at, last, stamp}
 use Rattle.halfedges.proofs.Steps.{froms, pl, around-places, sides-froms}
 use Rattle.halfedges.proofs.Fine.{Fine, nx-below, pv-below, from-of, in-length, ring-even}
 use Rattle.halfedges.proofs.Turns.{same-or}
-use Rattle.closing.specs.Locating.{hits, Some, Two, Unmet, Least, lower, StampsMean, Wrong, IsFirst, NoneBelow}
+use Rattle.closing.specs.Locating.{hits, Two, Unmet, Least, lower, StampsMean, Wrong, IsFirst, NoneBelow}
 use Rattle.closing.specs.Stages.{FirstUnringed}
 use Rattle.closing.specs.declared.Side.{Side}
 use Rattle.closing.specs.declared.Side.the-variants.{Found, Nowhere}
-use Rattle.closing.proofs.Hits.{hits-zero, hits-yes, hits-no, hits-le, hits-last, hits-place, hits-runs, sides-tos, hits-comes}
+use Rattle.closing.proofs.Hits.{hits-zero, hits-last, hits-place, hits-runs, sides-tos, hits-comes}
+use Rattle.closing.proofs.Stamping.{Turn, count-here, count-other, count-on, some-here}
 
 -- ---- the smallest number so far
 
@@ -49,94 +49,24 @@ pub least-map : {P Q : ℕ → Type 0} {p r : ℕ} → ((y : ℕ) → y < p → 
 least-map {p = p} {r = r} on back h =
     record { within = h .within; holds = λ l. on r l (h .holds l); before = λ y l q. h .before y l (back y (omega (arith, h .within)) q) }
 
--- ---- a turn at the place k of u, which leads to x by g
-
-module _ (g : ℕ → ℕ) (c : List ℕ) (u k x : ℕ) (low : k < length c) (names : at c k ≡ u) (x-is : x ≡ at c (g k)) where
-  -- the count of x grows by one, the others stay
-  count-here : hits g c u x (suc k) ≡ suc (hits g c u x (last c u k))
-  count-here = hits-yes g c u x k names (sym x-is) ∙ ap suc (sym (hits-last g c u x k))
-
-  count-other : (y : ℕ) → (y ≡ x → ⊥) → hits g c u y (suc k) ≡ hits g c u y (last c u k)
-  count-other y n = hits-no g c u y k (λ q. n (sym q ∙ sym x-is)) ∙ sym (hits-last g c u y k)
-
-  count-on : (y : ℕ) → hits g c u y (last c u k) ≤ hits g c u y (suc k)
-  count-on y = omega (arith, hits-last g c u y k, hits-le g c u y k (suc k) (omega arith))
-
-  count-end : (y : ℕ) → hits g c u y (suc k) ≤ hits g c u y (length c)
-  count-end y = hits-le g c u y (suc k) (length c) (omega arith)
-
-  some-here : Some g c u (last c u k) x
-  some-here = omega (arith, count-here, count-end x)
-
--- one stamp is set
-module _ (g : ℕ → ℕ) (c : List ℕ) (p : ℕ) (w : List ℕ) (u k x a : ℕ) (sized : Sized c p w) (low : k < length c) (names : at c k ≡ u) (x-is : x ≡ at c (g k)) (x-low : x < p) (a-is : a ≡ suc u) where
-  at-other : (j : ℕ) → (j ≡ p + x + x → ⊥) → at (set w (p + x + x) a) j ≡ at w j
-  at-other j n = getD-set-other w (p + x + x) j a 0 n
-
-  stamp-here : stamp p (set w (p + x + x) a) x ≡ suc u
-  stamp-here = getD-set-same w (p + x + x) a 0 (omega (arith, sized .room)) ∙ a-is
-
-  stamp-other : (z : ℕ) → (z ≡ x → ⊥) → stamp p (set w (p + x + x) a) z ≡ stamp p w z
-  stamp-other z n = at-other (p + z + z) (λ q. n (omega arith))
-
-  pub stamp-linked : Linked c p w (length c) → Linked c p (set w (p + x + x) a) (length c)
-  stamp-linked h = record {
-    heads = λ v l. at-other v (λ q. omega arith) ∙ h .heads v l;
-    links = λ j l. at-other (p + p + p + j) (λ q. omega arith) ∙ h .links j l;
-  }
-
-  pub stamp-far : drop (p + p + p + length c) (set w (p + x + x) a) ≡ drop (p + p + p + length c) w
-  stamp-far = drop-set-lt (p + p + p + length c) w (p + x + x) a (omega arith)
-
-  pub stamp-next : Linked c p w (length c) → at (set w (p + x + x) a) (p + p + p + k) ≡ last c u k
-  stamp-next h = at-other (p + p + p + k) (λ q. omega arith) ∙ h .links k low ∙ ap (λ (i : ℕ). last c i k) names
-
-  pub stamp-met : StampsMean g c p w u (suc k) → StampsMean g c p (set w (p + x + x) a) u (last c u k)
-  stamp-met h =
-      let w′ = set w (p + x + x) a in
-      record {
-        stamped = λ z l.
-            ⊎-elim
-            (λ (e : z ≡ x). omega (arith, ap (stamp p w′) e, stamp-here))
-            (λ (n : z ≡ x → ⊥). omega (arith, stamp-other z n, h .stamped z l))
-            (same-or z x);
-        known = λ z l s.
-            ⊎-elim
-            (λ (e : z ≡ x). ap (stamp p w′) e ∙ stamp-here)
-            (λ (n : z ≡ x → ⊥). stamp-other z n ∙ h .known z l (omega (arith, s, count-other g c u k x low names x-is z n)))
-            (same-or z x);
-        found = λ z l q.
-            ⊎-elim
-            (λ (e : z ≡ x). subst (Some g c u (last c u k)) (sym e) (some-here g c u k x low names x-is))
-            (λ (n : z ≡ x → ⊥). let s = h .found z l (sym (stamp-other z n) ∙ q) in omega (arith, count-other g c u k x low names x-is z n))
-            (same-or z x);
-      }
-
-pub met-start : (g : ℕ → ℕ) (c : List ℕ) (p : ℕ) (w : List ℕ) (u : ℕ) → Stamped p w u → StampsMean g c p w u (last c u (length c))
-met-start g c p w u h = record {
-  stamped = λ x l. omega (arith, h x l);
-  known = λ x l s. absurd (omega (arith, s, hits-last g c u x (length c)));
-  found = λ x l q. absurd (omega (arith, h x l, q));
-}
-
 -- ---- the smallest corner to which two places of u run
 
-pub two-start : (c : List ℕ) (p u : ℕ) → Least (Two c u (last c u (length c))) p p
-two-start c p u = record {
+pub two-start : (c : List ℕ) (p u : ℕ) {q : ℕ} → q ≡ last c u (length c) → Least (Two c u q) p p
+two-start c p u e = record {
   within = omega arith;
   holds = λ l. absurd (omega arith);
-  before = λ y l s. omega (arith, s, hits-last nx c u y (length c));
+  before = λ y l s. omega (arith, s, ap (hits nx c u y) e, hits-last nx c u y (length c));
 }
 
-pub two-turn : (c : List ℕ) (p : ℕ) (w : List ℕ) (u k x seen mark best best′ : ℕ) → k < length c → at c k ≡ u → x ≡ at c (nx k) → x < p → seen ≡ stamp p w x → mark ≡ suc u → best′ ≡ lower (eqb seen mark) x best → StampsMean nx c p w u (suc k) → Least (Two c u (suc k)) p best → Least (Two c u (last c u k)) p best′
-two-turn c p w u k x seen mark best best′ low names x-is x-low s m e met h =
-    let here = count-here nx c u k x low names x-is in
-    best-turn p x best best′ x-low
-    (λ y q. omega (arith, q, count-on nx c u k x low names x-is y))
-    (λ y n q. omega (arith, q, count-other nx c u k x low names x-is y n))
+pub two-turn : {c : List ℕ} {p u q k x q′ : ℕ} {w : List ℕ} (turn : Turn nx c p u q k x) → q′ ≡ last c u k → (seen mark : ℕ) {best best′ : ℕ} → seen ≡ stamp p w x → mark ≡ suc u → best′ ≡ lower (eqb seen mark) x best → StampsMean nx c p w u q → Least (Two c u q) p best → Least (Two c u q′) p best′
+two-turn {p = p} {x = x} turn on seen mark {best} {best′} s m e met h =
+    let here = count-here turn on in
+    best-turn p x best best′ (turn .x-low)
+    (λ y q. omega (arith, q, count-on turn on y))
+    (λ y n q. omega (arith, q, count-other turn on y n))
     (eqb seen mark)
-    (λ t. let f = met .found x x-low (sym s ∙ eqb-true seen mark t ∙ m) in omega arith)
-    (λ t q. eqb-false seen mark t (s ∙ met .known x x-low (omega (arith, q)) ∙ sym m))
+    (λ t. let f = met .found x (turn .x-low) (sym s ∙ eqb-true seen mark t ∙ m) in omega arith)
+    (λ t q. eqb-false seen mark t (s ∙ met .known x (turn .x-low) (omega (arith, q)) ∙ sym m))
     e h
 
 pub two-repeated : (c : List ℕ) (p u r : ℕ) → length c % 3 ≡ 0 → Least (Two c u 0) p r → Least (Wrong false (triangles c) u) p r
@@ -148,20 +78,20 @@ two-repeated c p u r h l =
 
 -- ---- the smallest corner to which a place of u runs and from which none comes
 
-pub unmet-start : (c : List ℕ) (p : ℕ) (w : List ℕ) (u : ℕ) → Least (Unmet c p w u (last c u (length c))) p p
-unmet-start c p w u = record {
+pub unmet-start : (c : List ℕ) (p : ℕ) (w : List ℕ) (u : ℕ) {q : ℕ} → q ≡ last c u (length c) → Least (Unmet c p w u q) p p
+unmet-start c p w u e = record {
   within = omega arith;
   holds = λ l. absurd (omega arith);
-  before = λ y l s. omega (arith, s .0, hits-last nx c u y (length c));
+  before = λ y l s. omega (arith, s .0, ap (hits nx c u y) e, hits-last nx c u y (length c));
 }
 
-pub unmet-turn : (c : List ℕ) (p : ℕ) (w : List ℕ) (u k x seen mark best best′ : ℕ) → k < length c → at c k ≡ u → x ≡ at c (nx k) → x < p → seen ≡ stamp p w x → mark ≡ suc u → best′ ≡ lower (not (eqb seen mark)) x best → Least (Unmet c p w u (suc k)) p best → Least (Unmet c p w u (last c u k)) p best′
-unmet-turn c p w u k x seen mark best best′ low names x-is x-low s m e h =
-    best-turn p x best best′ x-low
-    (λ y q. (omega (arith, q .0, count-on nx c u k x low names x-is y), q .1))
-    (λ y n q. (omega (arith, q .0, count-other nx c u k x low names x-is y n), q .1))
+pub unmet-turn : {c : List ℕ} {p u q k x q′ : ℕ} (w : List ℕ) (turn : Turn nx c p u q k x) → q′ ≡ last c u k → (seen mark : ℕ) {best best′ : ℕ} → seen ≡ stamp p w x → mark ≡ suc u → best′ ≡ lower (not (eqb seen mark)) x best → Least (Unmet c p w u q) p best → Least (Unmet c p w u q′) p best′
+unmet-turn {p = p} {x = x} w turn on seen mark {best} {best′} s m e h =
+    best-turn p x best best′ (turn .x-low)
+    (λ y q. (omega (arith, q .0, count-on turn on y), q .1))
+    (λ y n q. (omega (arith, q .0, count-other turn on y n), q .1))
     (not (eqb seen mark))
-    (λ t. (some-here nx c u k x low names x-is, λ q. eqb-false seen mark (away (eqb seen mark) t) (s ∙ q ∙ sym m)))
+    (λ t. (some-here turn on, λ q. eqb-false seen mark (away (eqb seen mark) t) (s ∙ q ∙ sym m)))
     (λ t q. q .1 (sym s ∙ eqb-true seen mark (here (eqb seen mark) t) ∙ m))
     e h
   where

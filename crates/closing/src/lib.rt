@@ -7,6 +7,10 @@ use halfedges::after;
 use halfedges::before;
 use halfedges::wide;
 use surface::Finding;
+use words::ahead;
+use words::behind;
+use words::put;
+use words::word;
 ghost use mathlib.Core.Path.{_≡_};
 ghost use mathlib.Core.Bool.{true, false};
 ghost use mathlib.Core.List.{_++_};
@@ -181,14 +185,14 @@ fn smallest_repeated(corners: &[u32], points: usize, u: usize, work: &mut [u32])
     ensures { λ r. ⌜ EndSought (now (corners .entry)) points false u (now (work .entry)) (now (work .exit)) r ⌝ }
 {
     let mut best = points;
-    let mut p = wide(work[u]);
+    let mut p = word(work, u);
     while p > 0 {
         let k = p - 1;
-        let x = wide(corners[after(k)]);
+        let x = ahead(corners, k);
         let slot = points + x + x;
-        best = lowered(wide(work[slot]) == u + 1, x, best);
-        work[slot] = (u + 1) as u32;
-        p = wide(work[points + points + points + k]);
+        best = lowered(word(work, slot) == u + 1, x, best);
+        put(work, slot, u + 1);
+        p = word(work, points + points + points + k);
     }
     best
 }
@@ -199,12 +203,12 @@ fn stamp_origins(corners: &[u32], points: usize, u: usize, work: &mut [u32])
     requires { ⌜ u < points ⌝ }
     ensures { λ _. ⌜ OriginsStamped (now (corners .entry)) points u (now (work .entry)) (now (work .exit)) ⌝ }
 {
-    let mut p = wide(work[u]);
+    let mut p = word(work, u);
     while p > 0 {
         let k = p - 1;
-        let x = wide(corners[before(k)]);
-        work[points + x + x] = (u + 1) as u32;
-        p = wide(work[points + points + points + k]);
+        let x = behind(corners, k);
+        put(work, points + x + x, u + 1);
+        p = word(work, points + points + points + k);
     }
 }
 
@@ -215,12 +219,12 @@ fn smallest_unstamped(corners: &[u32], points: usize, u: usize, work: &[u32]) ->
     ensures { λ r. ⌜ Least (Unmet (now (corners .entry)) points (now (work .entry)) u 0) points r ⌝ }
 {
     let mut best = points;
-    let mut p = wide(work[u]);
+    let mut p = word(work, u);
     while p > 0 {
         let k = p - 1;
-        let x = wide(corners[after(k)]);
-        best = lowered(wide(work[points + x + x]) != u + 1, x, best);
-        p = wide(work[points + points + points + k]);
+        let x = ahead(corners, k);
+        best = lowered(word(work, points + x + x) != u + 1, x, best);
+        p = word(work, points + points + points + k);
     }
     best
 }

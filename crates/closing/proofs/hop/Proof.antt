@@ -4,7 +4,7 @@ use mathlib.Core.Path.{_≡_, sym, ap, _∙_}
 use native.Mathlib.Omega.{arith}
 use native.Mathlib.Numerals.{add-one}
 use denote.Ref.{now}
-use Rattle.halfedges.specs.Place.{stamp, note}
+use Rattle.halfedges.specs.Place.{stamp}
 use Rattle.halfedges.proofs.Chains.{hop-yes, hop-no}
 use borrow.Author.Needs.{needs}
 use Rattle.closing.proofs.hop.Statement.{statement}

@@ -1,28 +1,22 @@
 -- `closing::smallest_repeated` meets its contract: at the loop's head the corners to which u's places from p on run are stamped, and best is the smallest to which two of them do.
-use Prim.Native.Nat.{ℕ, suc, _+_, _-_, _≤_, _<_}
-use mathlib.Core.Path.{_≡_, refl, sym, ap, _∙_, subst}
+use Prim.Native.Nat.{ℕ, _+_, _-_}
+use mathlib.Core.Path.{_≡_, _∙_, subst}
 use mathlib.Core.List.{List}
 use native.Mathlib.Omega.{arith}
 use native.Mathlib.Numerals.{add-one}
-use lib.ListN.{length, drop, set, length-set}
 use denote.Ref.{now}
-use Rattle.halfedges.specs.Place.{nx, at, last, Sized, Linked}
+use Rattle.halfedges.specs.Place.{nx, last}
 use Rattle.halfedges.proofs.Fine.{nx-below}
-use Rattle.halfedges.proofs.Chains.{last-le, last-names}
-use Rattle.halfedges.proofs.Turns.{sized-other}
-use Rattle.closing.specs.Locating.{Two, Least, StampsMean}
-use Rattle.closing.proofs.Locating.{stamp-linked, stamp-far, stamp-next, stamp-met, met-start, two-start, two-turn, two-repeated}
+use Rattle.halfedges.proofs.Chains.{last-le}
+use Rattle.closing.specs.Locating.{Two, Least}
+use Rattle.closing.proofs.Stamping.{Turn, turn-at, Stamping, stamping-start, stamping-next, stamping-turn, stamping-ready}
+use Rattle.closing.proofs.Locating.{two-start, two-turn, two-repeated}
 use Rattle.closing.proofs.smallest_repeated.Statement.{statement}
 use Rattle.closing.proofs.smallest_repeated.Tie as tie
 
 record Going (c : List ℕ) (p u : ℕ) (w₀ w : List ℕ) (q best : ℕ) : Type 0 where
-  low : q ≤ length c
-  size : length w ≡ length w₀
-  linked : Linked c p w (length c)
-  met : StampsMean nx c p w u q
+  stamping : Stamping nx c p u w₀ w q
   lowest : Least (Two c u q) p best
-  names : (k : ℕ) → q ≡ suc k → at c k ≡ u
-  far : drop (p + p + p + length c) w ≡ drop (p + p + p + length c) w₀
 
 abbrev Inv-loop : tie.InvT-loop
 Inv-loop corners points u work₀ best₀ p₀ work best p = Going corners points u work₀ work p best
@@ -30,200 +24,115 @@ Inv-loop corners points u work₀ best₀ p₀ work best p = Going corners point
 abbrev μ-loop : tie.MeasureT-loop
 μ-loop corners points u work₀ best₀ p₀ work best p = p
 
-mul-wide : tie.Need-mul-wide Inv-loop μ-loop
-mul-wide c = omega (arith, c .before .before .pre .0 .sized, c .before .before .pre .1)
-
-slice-read-wide : tie.Need-slice-read-wide Inv-loop μ-loop
-slice-read-wide c = omega (arith, c .before .before .before .pre .0 .sized, c .before .before .before .pre .1)
-
-wide-requires : tie.Need-wide-requires Inv-loop μ-loop
-wide-requires c κs = tt
+word-requires : tie.Need-word-requires Inv-loop μ-loop
+word-requires c κs = let s = c .before .before .before in omega (arith, s .pre .0 .sized, s .pre .1)
 
 loop-holds : tie.Need-loop-holds Inv-loop μ-loop
 loop-holds c =
     let s = c .before .before .before .before in
-    let cs = now (s .args .corners) in
-    let u = s .args .u in
-    let ready = s .pre .0 in
-    let e : c .wide .result ≡ last cs u (length cs) = c .wide .ensures ∙ ready .linked .heads u (s .pre .1) in
-    record {
-      low = omega (arith, e, last-le cs u (length cs));
-      size = refl;
-      linked = ready .linked;
-      met = subst (StampsMean nx cs (s .args .points) (now (s .args .work)) u) (sym e) (met-start nx cs (s .args .points) (now (s .args .work)) u (ready .stamped));
-      lowest = subst (λ (q : ℕ). Least (Two cs u q) (s .args .points) (s .args .points)) (sym e) (two-start cs (s .args .points) u);
-      names = λ k q. last-names cs u (length cs) k (sym e ∙ q);
-      far = refl;
-    }
+    let a = s .args in
+    let e = c .word .ensures ∙ s .pre .0 .linked .heads (a .u) (s .pre .1) in
+    record { stamping = stamping-start nx (s .pre .0) e; lowest = two-start (now (a .corners)) (a .points) (a .u) e }
 
 abbrev start : tie.At-loop Inv-loop μ-loop → tie.Start Inv-loop μ-loop
 start l = l .before .before .before .before .before
 
-abbrev Cs : tie.At-loop Inv-loop μ-loop → List ℕ
-Cs l = now (start l .args .corners)
+abbrev at-loop : tie.After-ahead Inv-loop μ-loop → tie.At-loop Inv-loop μ-loop
+at-loop c = c .before .before
 
-abbrev P : tie.At-loop Inv-loop μ-loop → ℕ
-P l = start l .args .points
+turn : (c : tie.After-ahead Inv-loop μ-loop) → let l = at-loop c in let a = start l .args in Turn nx (now (a .corners)) (a .points) (a .u) (l .loop .p) (l .loop .p - 1) (c .ahead .result)
+turn c = let h = at-loop c .loop .inv .stamping in turn-at nx nx-below (h .sized) (h .place) (c .before .loop-test .taken) (c .ahead .ensures)
 
-abbrev U : tie.At-loop Inv-loop μ-loop → ℕ
-U l = start l .args .u
+abbrev stamped : tie.After-word-arg3 Inv-loop μ-loop → tie.After-put Inv-loop μ-loop
+stamped c = c .before .before .before
 
-abbrev K : tie.At-loop Inv-loop μ-loop → ℕ
-K l = l .loop .p - 1
+abbrev tested : tie.After-put-arg Inv-loop μ-loop → tie.After-word2 Inv-loop μ-loop
+tested c = c .before .before
 
-sized : (l : tie.At-loop Inv-loop μ-loop) → Sized (Cs l) (P l) (l .loop .work)
-sized l = sized-other (Cs l) (P l) (now (start l .args .work)) (l .loop .work) (l .loop .inv .size) (start l .pre .0 .sized)
-
--- in a turn: the place k, and the corner x to which it runs
-k-is : (c : tie.In-loop Inv-loop μ-loop) → c .before .loop .p ≡ suc (K (c .before))
-k-is c = omega arith
-
-k-low : (c : tie.In-loop Inv-loop μ-loop) → K (c .before) < length (Cs (c .before))
-k-low c = omega (arith, k-is c, c .before .loop .inv .low)
-
-names : (c : tie.In-loop Inv-loop μ-loop) → at (Cs (c .before)) (K (c .before)) ≡ U (c .before)
-names c = c .before .loop .inv .names (K (c .before)) (k-is c)
-
-after-low : (c : tie.After-after Inv-loop μ-loop) → c .after .result < length (Cs (c .before .before))
-after-low c = let l = c .before .before in omega (arith, c .after .ensures, nx-below (length (Cs l)) (K l) (sized l .thirds) (k-low (c .before)))
-
-abbrev in-loop : tie.After-wide2 Inv-loop μ-loop → tie.In-loop Inv-loop μ-loop
-in-loop c = c .before .before .before
-
-abbrev at-loop : tie.After-wide2 Inv-loop μ-loop → tie.At-loop Inv-loop μ-loop
-at-loop c = c .before .before .before .before
-
-x-is : (c : tie.After-wide2 Inv-loop μ-loop) → c .wide2 .result ≡ at (Cs (at-loop c)) (nx (K (at-loop c)))
-x-is c = c .wide2 .ensures ∙ ap (at (Cs (at-loop c))) (c .before .before .after .ensures)
-
-below : (c : tie.After-wide2 Inv-loop μ-loop) → c .wide2 .result < P (at-loop c)
-below c =
-    let l = at-loop c in
-    omega (arith, x-is c, sized l .below (nx (K l)) (nx-below (length (Cs l)) (K l) (sized l .thirds) (k-low (in-loop c))))
-
-abbrev mid : tie.After-lowered Inv-loop μ-loop → tie.After-wide2 Inv-loop μ-loop
-mid c = c .before .before .before
+abbrev arrived : tie.After-put-arg Inv-loop μ-loop → tie.After-ahead Inv-loop μ-loop
+arrived c = tested c .before .before
 
 -- the next place of u
-next : (c : tie.After-wide4 Inv-loop μ-loop) → let l = at-loop (mid (c .before .before)) in c .wide4 .result ≡ last (Cs l) (U l) (K l)
+next : (c : tie.After-word3 Inv-loop μ-loop) → let l = at-loop (arrived (stamped (c .before) .before)) in let a = start l .args in c .word3 .result ≡ last (now (a .corners)) (a .u) (l .loop .p - 1)
 next c =
-    let x = mid (c .before .before) in
-    let i = in-loop x in
-    let l = i .before in
-    c .wide4 .ensures ∙ stamp-next nx (Cs l) (P l) (l .loop .work) (U l) (K l) (x .wide2 .result) (U l + 1) (sized l) (k-low i) (names i) (x-is x) (below x) (add-one (U l)) (l .loop .inv .linked)
+    let b = stamped (c .before) in
+    let x = arrived (b .before) in
+    let l = at-loop x in
+    c .word3 .ensures ∙ stamping-next (l .loop .inv .stamping) (turn x) (add-one (start l .args .u)) (b .put .ensures)
 
 sub-k : tie.Need-sub-k Inv-loop μ-loop
 sub-k c = omega arith
 
-after-requires : tie.Need-after-requires Inv-loop μ-loop
-after-requires c κs = omega (arith, k-low c, sized (c .before) .few)
-
-mul-wide-2 : tie.Need-mul-wide-2 Inv-loop μ-loop
-mul-wide-2 c = omega (arith, after-low c, sized (c .before .before) .few)
-
-shared-slice-read-wide : tie.Need-shared-slice-read-wide Inv-loop μ-loop
-shared-slice-read-wide c = after-low (c .before)
-
-wide-requires-2 : tie.Need-wide-requires-2 Inv-loop μ-loop
-wide-requires-2 c κs = tt
+ahead-requires : tie.Need-ahead-requires Inv-loop μ-loop
+ahead-requires c κs = let h = c .before .loop .inv .stamping in (h .sized .thirds, h .sized .few, omega (arith, h .place .within))
 
 add-slot : tie.Need-add-slot Inv-loop μ-loop
-add-slot c = omega (arith, below c, sized (at-loop c))
+add-slot c = omega (arith, turn c .x-low, at-loop c .loop .inv .stamping .sized)
 
 add-slot-2 : tie.Need-add-slot-2 Inv-loop μ-loop
-add-slot-2 c = omega (arith, below c, sized (at-loop c))
+add-slot-2 c = omega (arith, turn c .x-low, at-loop c .loop .inv .stamping .sized)
 
-mul-wide-3 : tie.Need-mul-wide-3 Inv-loop μ-loop
-mul-wide-3 c = omega (arith, below c, sized (at-loop c))
-
-slice-read-wide-2 : tie.Need-slice-read-wide-2 Inv-loop μ-loop
-slice-read-wide-2 c = omega (arith, below (c .before), sized (at-loop (c .before)))
-
-wide-requires-3 : tie.Need-wide-requires-3 Inv-loop μ-loop
-wide-requires-3 c κs = tt
+word-requires-2 : tie.Need-word-requires-2 Inv-loop μ-loop
+word-requires-2 c κs = let x = c .before in omega (arith, turn x .x-low, at-loop x .loop .inv .stamping .sized)
 
 add-lowered : tie.Need-add-lowered Inv-loop μ-loop
-add-lowered c = let l = at-loop (c .before .before) in omega (arith, start l .pre .1, sized l .points)
+add-lowered c = let l = at-loop (c .before .before) in omega (arith, start l .pre .1, l .loop .inv .stamping .sized)
 
 lowered-requires : tie.Need-lowered-requires Inv-loop μ-loop
 lowered-requires c κs = tt
 
-add-work : tie.Need-add-work Inv-loop μ-loop
-add-work c = let l = at-loop (mid c) in omega (arith, start l .pre .1, sized l .points)
+add-put : tie.Need-add-put Inv-loop μ-loop
+add-put c = let l = at-loop (arrived c) in omega (arith, start l .pre .1, l .loop .inv .stamping .sized)
 
-cast-work : tie.Need-cast-work Inv-loop μ-loop
-cast-work c = let l = at-loop (mid c) in omega (arith, start l .pre .1, sized l .points)
+put-requires : tie.Need-put-requires Inv-loop μ-loop
+put-requires c κs =
+    let x = arrived c in
+    let l = at-loop x in
+    let h = l .loop .inv .stamping in
+    (omega (arith, turn x .x-low, h .sized), omega (arith, start l .pre .1, h .sized))
 
-mul-work : tie.Need-mul-work Inv-loop μ-loop
-mul-work c = omega (arith, below (mid c), sized (at-loop (mid c)))
+add-word : tie.Need-add-word Inv-loop μ-loop
+add-word c = let x = arrived (stamped c .before) in omega (arith, turn x .low, at-loop x .loop .inv .stamping .sized)
 
-slice-write-work : tie.Need-slice-write-work Inv-loop μ-loop
-slice-write-work c = omega (arith, below (mid c), sized (at-loop (mid c)))
+add-word-2 : tie.Need-add-word-2 Inv-loop μ-loop
+add-word-2 c = let x = arrived (stamped c .before) in omega (arith, turn x .low, at-loop x .loop .inv .stamping .sized)
 
-add-wide : tie.Need-add-wide Inv-loop μ-loop
-add-wide c = omega (arith, k-low (in-loop (mid c)), sized (at-loop (mid c)))
+add-word-3 : tie.Need-add-word-3 Inv-loop μ-loop
+add-word-3 c = let x = arrived (stamped c .before) in omega (arith, turn x .low, at-loop x .loop .inv .stamping .sized)
 
-add-wide-2 : tie.Need-add-wide-2 Inv-loop μ-loop
-add-wide-2 c = omega (arith, k-low (in-loop (mid c)), sized (at-loop (mid c)))
-
-add-wide-3 : tie.Need-add-wide-3 Inv-loop μ-loop
-add-wide-3 c = omega (arith, k-low (in-loop (mid c)), sized (at-loop (mid c)))
-
-mul-wide-4 : tie.Need-mul-wide-4 Inv-loop μ-loop
-mul-wide-4 c = omega (arith, k-low (in-loop (mid c)), sized (at-loop (mid c)))
-
-slice-read-wide-3 : tie.Need-slice-read-wide-3 Inv-loop μ-loop
-slice-read-wide-3 c = let x = mid (c .before) in simp length-set (omega (arith, k-low (in-loop x), sized (at-loop x)))
-
-wide-requires-4 : tie.Need-wide-requires-4 Inv-loop μ-loop
-wide-requires-4 c κs = tt
+word-requires-3 : tie.Need-word-requires-3 Inv-loop μ-loop
+word-requires-3 c κs = let x = arrived (stamped c .before) in omega (arith, turn x .low, at-loop x .loop .inv .stamping .sized, stamped c .put .kept .0)
 
 loop-less : tie.Need-loop-less Inv-loop μ-loop
-loop-less c =
-    let x = mid (c .before .before) in
-    let l = at-loop x in
-    omega (arith, next c, last-le (Cs l) (U l) (K l), k-is (in-loop x))
+loop-less c = let l = at-loop (arrived (stamped (c .before) .before)) in let a = start l .args in omega (arith, next c, last-le (now (a .corners)) (a .u) (l .loop .p - 1))
 
 loop-again : tie.Need-loop-again Inv-loop μ-loop
 loop-again c =
-    let b = c .before .before in
-    let t = b .before in
-    let x = mid b in
-    let i = in-loop x in
-    let l = i .before in
-    let cs = Cs l in
-    let p = P l in
-    let w = l .loop .work in
-    let u = U l in
-    let k = K l in
-    let z = x .wide2 .result in
+    let b = stamped (c .before) in
+    let t = tested (b .before) in
+    let x = arrived (b .before) in
+    let l = at-loop x in
     let inv = l .loop .inv in
-    let e = next c in
-    let met = subst (StampsMean nx cs p w u) (k-is i) (inv .met) in
+    let u = start l .args .u in
     record {
-      low = omega (arith, e, last-le cs u k, k-low i);
-      size = simp length-set (inv .size);
-      linked = stamp-linked nx cs p w u k z (u + 1) (sized l) (k-low i) (names i) (x-is x) (below x) (add-one u) (inv .linked);
-      met = subst (StampsMean nx cs p (set w (p + z + z) (u + 1)) u) (sym e) (stamp-met nx cs p w u k z (u + 1) (sized l) (k-low i) (names i) (x-is x) (below x) (add-one u) met);
-      lowest = subst (λ (q : ℕ). Least (Two cs u q) p (b .lowered .result)) (sym e)
-          (two-turn cs p w u k z (t .wide3 .result) (u + 1) (l .loop .best) (b .lowered .result) (k-low i) (names i) (x-is x) (below x) (t .wide3 .ensures) (add-one u) (b .lowered .ensures) met
-          (subst (λ (q : ℕ). Least (Two cs u q) p (l .loop .best)) (k-is i) (inv .lowest)));
-      names = λ j q. last-names cs u k j (sym e ∙ q);
-      far = stamp-far nx cs p w u k z (u + 1) (sized l) (k-low i) (names i) (x-is x) (below x) (add-one u) ∙ inv .far;
+      stamping = stamping-turn (inv .stamping) (turn x) (add-one u) (b .put .ensures) (next c);
+      lowest = two-turn (turn x) (next c) (t .word2 .result) (u + 1) (t .word2 .ensures) (add-one u) (b .before .before .lowered .ensures) (inv .stamping .met) (inv .lowest);
     }
 
 same-length : tie.Need-same-length Inv-loop μ-loop
-same-length c = c .before .loop .inv .size
+same-length c = c .before .loop .inv .stamping .size
 
 returns : tie.Need-returns Inv-loop μ-loop
 returns c =
     let l = c .before in
-    let inv = l .loop .inv in
+    let a = start l .args in
+    let cs = now (a .corners) in
+    let h = l .loop .inv .stamping in
     let z : l .loop .p ≡ 0 = omega arith in
     record {
-      ready = record { sized = sized l; linked = inv .linked; stamped = inv .met .stamped };
-      far = inv .far;
-      least = two-repeated (Cs l) (P l) (U l) (l .loop .best) (sized l .thirds) (subst (λ (q : ℕ). Least (Two (Cs l) (U l) q) (P l) (l .loop .best)) z (inv .lowest));
+      ready = stamping-ready h;
+      far = h .far;
+      least = two-repeated cs (a .points) (a .u) (l .loop .best) (h .sized .thirds) (subst (λ (q : ℕ). Least (Two cs (a .u) q) (a .points) (l .loop .best)) z (l .loop .inv .lowest));
     }
 
 pub smallest-repeated-spec : {M : Type 1} → statement M
@@ -232,32 +141,21 @@ smallest-repeated-spec =
     (tie.spec
     Inv-loop
     μ-loop
-    mul-wide
-    slice-read-wide
-    wide-requires
+    word-requires
     loop-holds
     sub-k
-    after-requires
-    mul-wide-2
-    shared-slice-read-wide
-    wide-requires-2
+    ahead-requires
     add-slot
     add-slot-2
-    mul-wide-3
-    slice-read-wide-2
-    wide-requires-3
+    word-requires-2
     add-lowered
     lowered-requires
-    add-work
-    cast-work
-    mul-work
-    slice-write-work
-    add-wide
-    add-wide-2
-    add-wide-3
-    mul-wide-4
-    slice-read-wide-3
-    wide-requires-4
+    add-put
+    put-requires
+    add-word
+    add-word-2
+    add-word-3
+    word-requires-3
     loop-less
     loop-again
     same-length

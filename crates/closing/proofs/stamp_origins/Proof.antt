@@ -1,191 +1,92 @@
 -- `closing::stamp_origins` meets its contract: at the loop's head the corners from which u's places from p on come are stamped.
-use Prim.Native.Nat.{ℕ, suc, _+_, _-_, _≤_, _<_}
-use mathlib.Core.Path.{_≡_, refl, sym, ap, _∙_, subst}
-use mathlib.Core.List.{List}
+use Prim.Native.Nat.{_-_}
+use mathlib.Core.Path.{_≡_, _∙_, subst}
 use native.Mathlib.Omega.{arith}
 use native.Mathlib.Numerals.{add-one}
-use lib.ListN.{length, drop, set, length-set}
 use denote.Ref.{now}
-use Rattle.halfedges.specs.Place.{pv, at, last, Sized, Linked}
+use Rattle.halfedges.specs.Place.{pv, last}
 use Rattle.halfedges.proofs.Fine.{pv-below}
-use Rattle.halfedges.proofs.Chains.{last-le, last-names}
-use Rattle.halfedges.proofs.Turns.{sized-other}
+use Rattle.halfedges.proofs.Chains.{last-le}
 use Rattle.closing.specs.Locating.{StampsMean}
-use Rattle.closing.proofs.Locating.{stamp-linked, stamp-far, stamp-next, stamp-met, met-start}
+use Rattle.closing.proofs.Stamping.{Turn, turn-at, Stamping, stamping-start, stamping-next, stamping-turn, stamping-ready}
 use Rattle.closing.proofs.stamp_origins.Statement.{statement}
 use Rattle.closing.proofs.stamp_origins.Tie as tie
 
-record Going (c : List ℕ) (p u : ℕ) (w₀ w : List ℕ) (q : ℕ) : Type 0 where
-  low : q ≤ length c
-  size : length w ≡ length w₀
-  linked : Linked c p w (length c)
-  met : StampsMean pv c p w u q
-  names : (k : ℕ) → q ≡ suc k → at c k ≡ u
-  far : drop (p + p + p + length c) w ≡ drop (p + p + p + length c) w₀
-
 abbrev Inv-loop : tie.InvT-loop
-Inv-loop corners points u work₀ p₀ work p = Going corners points u work₀ work p
+Inv-loop corners points u work₀ p₀ work p = Stamping pv corners points u work₀ work p
 
 abbrev μ-loop : tie.MeasureT-loop
 μ-loop corners points u work₀ p₀ work p = p
 
-mul-wide : tie.Need-mul-wide Inv-loop μ-loop
-mul-wide c = omega (arith, c .before .before .pre .0 .sized, c .before .before .pre .1)
-
-slice-read-wide : tie.Need-slice-read-wide Inv-loop μ-loop
-slice-read-wide c = omega (arith, c .before .before .before .pre .0 .sized, c .before .before .before .pre .1)
-
-wide-requires : tie.Need-wide-requires Inv-loop μ-loop
-wide-requires c κs = tt
+word-requires : tie.Need-word-requires Inv-loop μ-loop
+word-requires c κs = let s = c .before .before .before in omega (arith, s .pre .0 .sized, s .pre .1)
 
 loop-holds : tie.Need-loop-holds Inv-loop μ-loop
-loop-holds c =
-    let s = c .before .before .before .before in
-    let cs = now (s .args .corners) in
-    let u = s .args .u in
-    let ready = s .pre .0 in
-    let e : c .wide .result ≡ last cs u (length cs) = c .wide .ensures ∙ ready .linked .heads u (s .pre .1) in
-    record {
-      low = omega (arith, e, last-le cs u (length cs));
-      size = refl;
-      linked = ready .linked;
-      met = subst (StampsMean pv cs (s .args .points) (now (s .args .work)) u) (sym e) (met-start pv cs (s .args .points) (now (s .args .work)) u (ready .stamped));
-      names = λ k q. last-names cs u (length cs) k (sym e ∙ q);
-      far = refl;
-    }
+loop-holds c = let s = c .before .before .before .before in stamping-start pv (s .pre .0) (c .word .ensures ∙ s .pre .0 .linked .heads (s .args .u) (s .pre .1))
 
 abbrev start : tie.At-loop Inv-loop μ-loop → tie.Start Inv-loop μ-loop
 start l = l .before .before .before .before .before
 
-abbrev Cs : tie.At-loop Inv-loop μ-loop → List ℕ
-Cs l = now (start l .args .corners)
+abbrev at-loop : tie.After-behind Inv-loop μ-loop → tie.At-loop Inv-loop μ-loop
+at-loop c = c .before .before
 
-abbrev P : tie.At-loop Inv-loop μ-loop → ℕ
-P l = start l .args .points
+turn : (c : tie.After-behind Inv-loop μ-loop) → let l = at-loop c in let a = start l .args in Turn pv (now (a .corners)) (a .points) (a .u) (l .loop .p) (l .loop .p - 1) (c .behind .result)
+turn c = let inv = at-loop c .loop .inv in turn-at pv pv-below (inv .sized) (inv .place) (c .before .loop-test .taken) (c .behind .ensures)
 
-abbrev U : tie.At-loop Inv-loop μ-loop → ℕ
-U l = start l .args .u
+abbrev stamped : tie.After-word-arg2 Inv-loop μ-loop → tie.After-put Inv-loop μ-loop
+stamped c = c .before .before .before
 
-abbrev K : tie.At-loop Inv-loop μ-loop → ℕ
-K l = l .loop .p - 1
-
-sized : (l : tie.At-loop Inv-loop μ-loop) → Sized (Cs l) (P l) (l .loop .work)
-sized l = sized-other (Cs l) (P l) (now (start l .args .work)) (l .loop .work) (l .loop .inv .size) (start l .pre .0 .sized)
-
--- in a turn: the place k, and the corner x from which it comes
-k-is : (c : tie.In-loop Inv-loop μ-loop) → c .before .loop .p ≡ suc (K (c .before))
-k-is c = omega arith
-
-k-low : (c : tie.In-loop Inv-loop μ-loop) → K (c .before) < length (Cs (c .before))
-k-low c = omega (arith, k-is c, c .before .loop .inv .low)
-
-names : (c : tie.In-loop Inv-loop μ-loop) → at (Cs (c .before)) (K (c .before)) ≡ U (c .before)
-names c = c .before .loop .inv .names (K (c .before)) (k-is c)
-
-before-low : (c : tie.After-before2 Inv-loop μ-loop) → c .before2 .result < length (Cs (c .before .before))
-before-low c = let l = c .before .before in omega (arith, c .before2 .ensures, pv-below (length (Cs l)) (K l) (sized l .thirds) (k-low (c .before)))
-
-abbrev in-loop : tie.After-wide2 Inv-loop μ-loop → tie.In-loop Inv-loop μ-loop
-in-loop c = c .before .before .before
-
-abbrev at-loop : tie.After-wide2 Inv-loop μ-loop → tie.At-loop Inv-loop μ-loop
-at-loop c = c .before .before .before .before
-
-x-is : (c : tie.After-wide2 Inv-loop μ-loop) → c .wide2 .result ≡ at (Cs (at-loop c)) (pv (K (at-loop c)))
-x-is c = c .wide2 .ensures ∙ ap (at (Cs (at-loop c))) (c .before .before .before2 .ensures)
-
-below : (c : tie.After-wide2 Inv-loop μ-loop) → c .wide2 .result < P (at-loop c)
-below c =
-    let l = at-loop c in
-    omega (arith, x-is c, sized l .below (pv (K l)) (pv-below (length (Cs l)) (K l) (sized l .thirds) (k-low (in-loop c))))
+abbrev arrived : tie.After-word-arg2 Inv-loop μ-loop → tie.After-behind Inv-loop μ-loop
+arrived c = stamped c .before .before
 
 -- the next place of u
-next : (c : tie.After-wide3 Inv-loop μ-loop) → let l = at-loop (c .before .before) in c .wide3 .result ≡ last (Cs l) (U l) (K l)
+next : (c : tie.After-word2 Inv-loop μ-loop) → let l = at-loop (arrived (c .before)) in let a = start l .args in c .word2 .result ≡ last (now (a .corners)) (a .u) (l .loop .p - 1)
 next c =
-    let x = c .before .before in
-    let i = in-loop x in
-    let l = i .before in
-    c .wide3 .ensures ∙ stamp-next pv (Cs l) (P l) (l .loop .work) (U l) (K l) (x .wide2 .result) (U l + 1) (sized l) (k-low i) (names i) (x-is x) (below x) (add-one (U l)) (l .loop .inv .linked)
+    let x = arrived (c .before) in
+    let l = at-loop x in
+    c .word2 .ensures ∙ stamping-next (l .loop .inv) (turn x) (add-one (start l .args .u)) (stamped (c .before) .put .ensures)
 
 sub-k : tie.Need-sub-k Inv-loop μ-loop
 sub-k c = omega arith
 
-before-requires : tie.Need-before-requires Inv-loop μ-loop
-before-requires c κs = omega (arith, k-low c, sized (c .before) .few)
+behind-requires : tie.Need-behind-requires Inv-loop μ-loop
+behind-requires c κs = let inv = c .before .loop .inv in (inv .sized .thirds, inv .sized .few, omega (arith, inv .place .within))
 
-mul-wide-2 : tie.Need-mul-wide-2 Inv-loop μ-loop
-mul-wide-2 c = omega (arith, before-low c, sized (c .before .before) .few)
+add-put : tie.Need-add-put Inv-loop μ-loop
+add-put c = omega (arith, turn (c .before) .x-low, at-loop (c .before) .loop .inv .sized)
 
-shared-slice-read-wide : tie.Need-shared-slice-read-wide Inv-loop μ-loop
-shared-slice-read-wide c = before-low (c .before)
+add-put-2 : tie.Need-add-put-2 Inv-loop μ-loop
+add-put-2 c = omega (arith, turn (c .before) .x-low, at-loop (c .before) .loop .inv .sized)
 
-wide-requires-2 : tie.Need-wide-requires-2 Inv-loop μ-loop
-wide-requires-2 c κs = tt
+add-put-3 : tie.Need-add-put-3 Inv-loop μ-loop
+add-put-3 c = let l = at-loop (c .before) in omega (arith, start l .pre .1, l .loop .inv .sized)
 
-add-work : tie.Need-add-work Inv-loop μ-loop
-add-work c = let l = at-loop c in omega (arith, start l .pre .1, sized l .points)
+put-requires : tie.Need-put-requires Inv-loop μ-loop
+put-requires c κs =
+    let l = at-loop (c .before) in
+    let inv = l .loop .inv in
+    (omega (arith, turn (c .before) .x-low, inv .sized), omega (arith, start l .pre .1, inv .sized))
 
-cast-work : tie.Need-cast-work Inv-loop μ-loop
-cast-work c = let l = at-loop c in omega (arith, start l .pre .1, sized l .points)
+add-word : tie.Need-add-word Inv-loop μ-loop
+add-word c = let x = arrived c in omega (arith, turn x .low, at-loop x .loop .inv .sized)
 
-add-work-2 : tie.Need-add-work-2 Inv-loop μ-loop
-add-work-2 c = omega (arith, below c, sized (at-loop c))
+add-word-2 : tie.Need-add-word-2 Inv-loop μ-loop
+add-word-2 c = let x = arrived c in omega (arith, turn x .low, at-loop x .loop .inv .sized)
 
-add-work-3 : tie.Need-add-work-3 Inv-loop μ-loop
-add-work-3 c = omega (arith, below c, sized (at-loop c))
+add-word-3 : tie.Need-add-word-3 Inv-loop μ-loop
+add-word-3 c = let x = arrived c in omega (arith, turn x .low, at-loop x .loop .inv .sized)
 
-mul-work : tie.Need-mul-work Inv-loop μ-loop
-mul-work c = omega (arith, below c, sized (at-loop c))
-
-slice-write-work : tie.Need-slice-write-work Inv-loop μ-loop
-slice-write-work c = omega (arith, below c, sized (at-loop c))
-
-add-wide : tie.Need-add-wide Inv-loop μ-loop
-add-wide c = omega (arith, k-low (in-loop c), sized (at-loop c))
-
-add-wide-2 : tie.Need-add-wide-2 Inv-loop μ-loop
-add-wide-2 c = omega (arith, k-low (in-loop c), sized (at-loop c))
-
-add-wide-3 : tie.Need-add-wide-3 Inv-loop μ-loop
-add-wide-3 c = omega (arith, k-low (in-loop c), sized (at-loop c))
-
-mul-wide-3 : tie.Need-mul-wide-3 Inv-loop μ-loop
-mul-wide-3 c = omega (arith, k-low (in-loop c), sized (at-loop c))
-
-slice-read-wide-2 : tie.Need-slice-read-wide-2 Inv-loop μ-loop
-slice-read-wide-2 c = let x = c .before in simp length-set (omega (arith, k-low (in-loop x), sized (at-loop x)))
-
-wide-requires-3 : tie.Need-wide-requires-3 Inv-loop μ-loop
-wide-requires-3 c κs = tt
+word-requires-2 : tie.Need-word-requires-2 Inv-loop μ-loop
+word-requires-2 c κs = let x = arrived c in omega (arith, turn x .low, at-loop x .loop .inv .sized, stamped c .put .kept .0)
 
 loop-less : tie.Need-loop-less Inv-loop μ-loop
-loop-less c =
-    let x = c .before .before in
-    let l = at-loop x in
-    omega (arith, next c, last-le (Cs l) (U l) (K l), k-is (in-loop x))
+loop-less c = let l = at-loop (arrived (c .before)) in let a = start l .args in omega (arith, next c, last-le (now (a .corners)) (a .u) (l .loop .p - 1))
 
 loop-again : tie.Need-loop-again Inv-loop μ-loop
 loop-again c =
-    let x = c .before .before in
-    let i = in-loop x in
-    let l = i .before in
-    let cs = Cs l in
-    let p = P l in
-    let w = l .loop .work in
-    let u = U l in
-    let k = K l in
-    let z = x .wide2 .result in
-    let inv = l .loop .inv in
-    let e = next c in
-    let met = subst (StampsMean pv cs p w u) (k-is i) (inv .met) in
-    record {
-      low = omega (arith, e, last-le cs u k, k-low i);
-      size = simp length-set (inv .size);
-      linked = stamp-linked pv cs p w u k z (u + 1) (sized l) (k-low i) (names i) (x-is x) (below x) (add-one u) (inv .linked);
-      met = subst (StampsMean pv cs p (set w (p + z + z) (u + 1)) u) (sym e) (stamp-met pv cs p w u k z (u + 1) (sized l) (k-low i) (names i) (x-is x) (below x) (add-one u) met);
-      names = λ j q. last-names cs u k j (sym e ∙ q);
-      far = stamp-far pv cs p w u k z (u + 1) (sized l) (k-low i) (names i) (x-is x) (below x) (add-one u) ∙ inv .far;
-    }
+    let x = arrived (c .before) in
+    let l = at-loop x in
+    stamping-turn (l .loop .inv) (turn x) (add-one (start l .args .u)) (stamped (c .before) .put .ensures) (next c)
 
 same-length : tie.Need-same-length Inv-loop μ-loop
 same-length c = c .before .loop .inv .size
@@ -193,13 +94,10 @@ same-length c = c .before .loop .inv .size
 returns : tie.Need-returns Inv-loop μ-loop
 returns c =
     let l = c .before in
+    let a = start l .args in
     let inv = l .loop .inv in
     let z : l .loop .p ≡ 0 = omega arith in
-    record {
-      ready = record { sized = sized l; linked = inv .linked; stamped = inv .met .stamped };
-      far = inv .far;
-      met = subst (StampsMean pv (Cs l) (P l) (l .loop .work) (U l)) z (inv .met);
-    }
+    record { ready = stamping-ready inv; far = inv .far; met = subst (StampsMean pv (now (a .corners)) (a .points) (l .loop .work) (a .u)) z (inv .met) }
 
 pub stamp-origins-spec : {M : Type 1} → statement M
 stamp-origins-spec =
@@ -207,27 +105,18 @@ stamp-origins-spec =
     (tie.spec
     Inv-loop
     μ-loop
-    mul-wide
-    slice-read-wide
-    wide-requires
+    word-requires
     loop-holds
     sub-k
-    before-requires
-    mul-wide-2
-    shared-slice-read-wide
-    wide-requires-2
-    add-work
-    cast-work
-    add-work-2
-    add-work-3
-    mul-work
-    slice-write-work
-    add-wide
-    add-wide-2
-    add-wide-3
-    mul-wide-3
-    slice-read-wide-2
-    wide-requires-3
+    behind-requires
+    add-put
+    add-put-2
+    add-put-3
+    put-requires
+    add-word
+    add-word-2
+    add-word-3
+    word-requires-2
     loop-less
     loop-again
     same-length
