@@ -39,7 +39,7 @@ pub extern "C" fn lanovishel_check(
         }
         Verdict::Refused(why) => {
             *numbers = [0.0, 0.0];
-            *place = why.place();
+            *place = why.place(); // 0 0 but for a finding
             why.number()
         }
     }
