@@ -147,7 +147,7 @@ fn examine(points: &[f64], corners: &[u32], work: &mut [u32]) -> Verdict
     ensures { λ r. ⌜ Examined (now (points .entry)) (now (corners .entry)) (now (work .entry)) (now (work .exit)) r ⌝ }
 {
     if corners.len() == 0 {
-        closing::clear(work, points.len() / 3 * 16);
+        closing::clear_needed(corners, points.len() / 3, work);
         return Verdict::Accepted(0.0, 0.0);
     }
     match measure(points, corners) {
@@ -159,7 +159,7 @@ fn examine(points: &[f64], corners: &[u32], work: &mut [u32]) -> Verdict
             work,
         ),
         Verdict::Refused(why) => {
-            closing::clear(work, corners.len() / 3 * 32 + points.len() / 3 * 16);
+            closing::clear_needed(corners, points.len() / 3, work);
             Verdict::Refused(why)
         }
     }

@@ -1,5 +1,5 @@
 -- From stage to stage of the whole check.
-use Prim.Native.Nat.{ℕ, zero, suc, _+_, _-_, _≤_, _<_}
+use Prim.Native.Nat.{ℕ, zero, suc, _+_, _-_, _%_, _≤_, _<_}
 use mathlib.Core.Path.{_≡_, refl, sym, ap, _∙_, subst}
 use mathlib.Core.Bool.{Bool, true, false}
 use mathlib.Core.List.{List, _++_}
@@ -15,7 +15,7 @@ use Rattle.halfedges.proofs.Fine.{Fine, fine-of, rounded-of, fine-unused, unuse
 use Rattle.halfedges.proofs.Steps.{length-pl}
 use Rattle.halfedges.proofs.Whole.{Enough}
 use Rattle.closing.specs.Closing.{needed, Lent, Zeroed}
-use Rattle.closing.specs.Stages.{Chained, Ready, PastUnringed}
+use Rattle.closing.specs.Stages.{used, Chained, Ready, PastUnringed}
 
 pub zero-at : (n i : ℕ) (w t : List ℕ) → w ≡ replicate n 0 ++ t → i < n → at w i ≡ 0
 zero-at n i w t e l =
@@ -34,12 +34,16 @@ pub far-clear : (n : ℕ) (w d : List ℕ) → w ≡ replicate n 0 ++ drop n d �
 far-clear n w d e = ap (drop n) e ∙ drop-at (replicate n 0) (drop n d) n (length-replicate n 0)
 
 -- the lent words are used, then cleared
-pub zeroed-used : (c : List ℕ) (p : ℕ) (w₀ w₁ w₂ : List ℕ) (n : ℕ) → n ≡ needed c p → drop (needed c p) w₁ ≡ drop (needed c p) w₀ → w₂ ≡ replicate n 0 ++ drop n w₁ → Zeroed c p w₀ w₂
-zeroed-used c p w₀ w₁ w₂ n en far e = e ∙ ap (λ (k : ℕ). replicate k 0 ++ drop k w₁) en ∙ ap (λ (t : List ℕ). replicate (needed c p) 0 ++ t) far
+pub zeroed-past : (c : List ℕ) (p : ℕ) (w₀ w₁ w₂ : List ℕ) → drop (needed c p) w₁ ≡ drop (needed c p) w₀ → Zeroed c p w₁ w₂ → Zeroed c p w₀ w₂
+zeroed-past c p w₀ w₁ w₂ far e = e ∙ ap (λ (t : List ℕ). replicate (needed c p) 0 ++ t) far
+
+-- and were used by the judgement alone
+pub zeroed-used : (c : List ℕ) (p : ℕ) (w₀ w₁ w₂ : List ℕ) → length c % 3 ≡ 0 → drop (used c p) w₁ ≡ drop (used c p) w₀ → Zeroed c p w₁ w₂ → Zeroed c p w₀ w₂
+zeroed-used c p w₀ w₁ w₂ thirds far e = zeroed-past c p w₀ w₁ w₂ (far-on (used c p) (needed c p) w₁ w₀ (omega (arith, thirds)) far) e
 
 -- the lent words are cleared twice
 pub zeroed-again : (c : List ℕ) (p : ℕ) (w₀ w₁ w₂ : List ℕ) → Zeroed c p w₀ w₁ → Zeroed c p w₁ w₂ → Zeroed c p w₀ w₂
-zeroed-again c p w₀ w₁ w₂ e f = zeroed-used c p w₀ w₁ w₂ (needed c p) refl (far-clear (needed c p) w₁ w₀ e) f
+zeroed-again c p w₀ w₁ w₂ e f = zeroed-past c p w₀ w₁ w₂ (far-clear (needed c p) w₁ w₀ e) f
 
 -- as many words are lent as before
 pub lent-again : {c : List ℕ} {p : ℕ} {w w′ : List ℕ} → length w′ ≡ length w → Lent c p w → Lent c p w′

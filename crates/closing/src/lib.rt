@@ -18,7 +18,7 @@ ghost use Prim.Native.Nat.{ℕ, suc, _+_, _%_, _<_, _≤_};
 ghost use lib.ListN.{length, drop, replicate};
 ghost use Rattle.halfedges.specs.Place.{at, hopTo, trip, Sized, Inside};
 ghost use Rattle.surface.specs.Triangle.{triangles};
-ghost use Rattle.closing.specs.Closing.{Lent, Judgement, ClosedDecided};
+ghost use Rattle.closing.specs.Closing.{needed, Lent, Zeroed, Judgement, ClosedDecided};
 ghost use Rattle.closing.specs.Stages.{Chained, Ready, Entered, Judged, FirstUnringed, Unringed, Settled, Told};
 ghost use Rattle.closing.specs.Locating.{lower, Least, Unmet, Prepared, OriginsStamped, EndSought, NoneBelow, SideSought, Located};
 
@@ -32,6 +32,14 @@ pub fn clear(work: &mut [u32], count: usize)
         work[i] = 0;
         i += 1;
     }
+}
+
+// The words that the surface needs become 0.
+pub fn clear_needed(corners: &[u32], points: usize, work: &mut [u32])
+    requires { ⌜ (length (now corners) ≤ 98304) × (points ≤ 32768) × (needed (now corners) points ≤ length (now work)) ⌝ }
+    ensures { λ _. ⌜ Zeroed (now (corners .entry)) points (now (work .entry)) (now (work .exit)) ⌝ }
+{
+    clear(work, corners.len() / 3 * 32 + points * 16);
 }
 
 // Chains the places that name a corner: its head is one more than the last such place, and a place's link one more than the one before it.
@@ -161,7 +169,7 @@ fn settle(corners: &[u32], points: usize, least: usize, work: &mut [u32]) -> usi
 {
     prepare(corners, points, work);
     let past = first_unringed(corners, points, least, work);
-    clear(work, corners.len() / 3 * 32 + points * 16); // the corners are judged
+    clear_needed(corners, points, work);
     past
 }
 
@@ -295,7 +303,7 @@ pub fn finding(corners: &[u32], points: usize, work: &mut [u32]) -> Finding
         return Finding::Closed;
     }
     let found = locate(corners, points, past - 1, work);
-    clear(work, corners.len() / 3 * 32 + points * 16);
+    clear_needed(corners, points, work);
     found
 }
 
@@ -329,7 +337,7 @@ pub fn closed_surface(corners: &[u32], points: usize, work: &mut [u32]) -> bool
     ensures { λ r. ⌜ ClosedDecided (now (corners .entry)) points (now (work .entry)) (now (work .exit)) r ⌝ }
 {
     if !corners_differ(corners) {
-        clear(work, corners.len() / 3 * 32 + points * 16); // rule (a) fails
+        clear_needed(corners, points, work);
         return false;
     }
     settle(corners, points, 3, work) == 0

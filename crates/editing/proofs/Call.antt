@@ -26,6 +26,7 @@ use Rattle.questions.proofs.Laws.{passed-admitted}
 use Rattle.history.specs.History.{Pair, History, last, begun, after, verdicts}
 use Rattle.history.specs.Lists.{lentPair, entries, records, thenZero, historyOf}
 use Rattle.history.specs.Flat.{pairOf}
+use Rattle.closing.specs.Closing.{needed as lent, Zeroed}
 use Rattle.history.specs.Entry.{needed, Good, Standing}
 use Rattle.editing.specs.Held.{Holds}
 use Rattle.editing.specs.Run.{Starting, first, Ran}
@@ -175,7 +176,7 @@ module _ (points : List Float) (c l w es v j : List ℕ) where
             let q : length j′ - 12 * k ≡ length j - length (records (h .edits)) = omega arith in
             holds .journal ∙ ap (λ (x : ℕ). records (h .edits) ++ replicate x 0) q
 
-        m-is : length c′ / 3 * 32 + length points / 3 * 16 ≡ words-needed points c
+        m-is : lent c′ (length points / 3) ≡ words-needed points c
         m-is = omega arith
 
         further-is : drop (words-needed points c) w₂ ≡ drop (words-needed points c) w
@@ -187,7 +188,7 @@ module _ (points : List Float) (c l w es v j : List ℕ) where
         all-passed : editQuestions points c l w es v ≡ asked.Passed
         all-passed = answer-is d z ∙ ap₂ (λ (s t : Bool). ask (s && t) 15 asked.Passed) (eq-eqb (length es % 3) 0 e) (eq-eqb (length v) (length es / 3) f)
 
-        pub edited : {w₃ : List ℕ} → w₃ ≡ replicate (length c′ / 3 * 32 + length points / 3 * 16) 0 ++ drop (length c′ / 3 * 32 + length points / 3 * 16) w₂ → EditRun points c l w es v j c′ l′ w₃ v′ j′ (Edited n k)
+        pub edited : {w₃ : List ℕ} → Zeroed c′ (length points / 3) w₂ w₃ → EditRun points c l w es v j c′ l′ w₃ v′ j′ (Edited n k)
         edited g = record {
           answer = sym (ap (λ (q : Asked). answerOf q h) all-passed ∙ ap₂ Edited size-is (holds .count));
           corners = corners-is;

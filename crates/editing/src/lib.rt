@@ -290,6 +290,6 @@ pub fn edit(
     closing::clear(journal, size);
     let count = points.len() / 3;
     let left = run(corners, labels, work, count, entries, verdicts, journal);
-    closing::clear(work, corners.len() / 3 * 32 + count * 16);
+    closing::clear_needed(corners, count, work);
     Outcome::Edited(left.n, left.k)
 }

@@ -138,9 +138,5 @@ module _ (ps : List Float) (cs ls work : List ℕ) where
         go (infinite c s f) = absurd (four (ap askedNumber (sym e ∙ f)))
         go (passes c s f) = absurd (not-both f e)
 
--- words that are cleared by a number that is the needed one
-pub cleared-same : (work : List ℕ) {m n : ℕ} {w : List ℕ} → m ≡ n → w ≡ cleared m work → w ≡ cleared n work
-cleared-same work e h = h ∙ ap (λ (k : ℕ). cleared k work) e
-
 pub words-late : (ps : List Float) (cs work : List ℕ) (n : ℕ) → (leb 1 n && leb n 3) ≡ false → cleared (needed ps cs) work ≡ workAfter n ps cs work
 words-late ps cs work n b = sym (ap (λ (t : Bool). cond t work (cleared (needed ps cs) work)) b)

@@ -1,18 +1,17 @@
 -- The labels of a corner by the places of the corner list: the place k belongs to the triangle k / 3, and has that triangle's label.
-use Prim.Native.Nat.{ℕ, zero, suc, _+_, _*_, _-_, _/_, _%_, _<_}
+use Prim.Native.Nat.{ℕ, zero, suc, _+_, _-_, _/_, _%_, _<_}
 use native.Mathlib.Omega.{arith}
 use mathlib.Core.Path.{_≡_, refl, sym, ap, _∙_, subst}
 use mathlib.Core.Logic.{_⊎_, inl, inr}
 use mathlib.Core.Bool.{Bool, true, false, _&&_, _||_, not, false≢true}
 use mathlib.Core.List.{List, [], _∷_}
 use lib.Dec.{eqb}
-use lib.ListN.{length, getD}
+use lib.ListN.{length}
 use borrow.Author.Tests.{eqb-true, eq-eqb}
-use Rattle.surface.specs.Triangle.{Tri, tri, triangles, names}
+use Rattle.surface.specs.Triangle.{tri, triangles, names}
 use Rattle.surface.proofs.Bools.{join, not-true, true-false, or-cases}
 use Rattle.surface.proofs.Bools as bools
 use Rattle.halfedges.specs.Place.{at}
-use Rattle.surface.specs.Check.{every}
 use Rattle.questions.specs.Questions.{unopposed?}
 use Rattle.surface.specs.Label.{carries}
 use Rattle.questions.specs.Labels.{both, opposed}

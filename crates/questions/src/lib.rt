@@ -111,7 +111,7 @@ pub fn lent(points: &[f64], corners: &[u32], labels: &[u8], work: &mut [u32]) ->
         return Asked::Passed;
     };
     if why.number() == 4 {
-        closing::clear(work, corners.len() / 3 * 32 + points.len() / 3 * 16);
+        closing::clear_needed(corners, points.len() / 3, work);
         return Asked::Refused(why);
     }
     Asked::Refused(why)
@@ -216,7 +216,7 @@ fn further(corners: &[u32], labels: &[u8], points: usize, work: &mut [u32]) -> A
     ensures { λ r. ⌜ Further (now (corners .entry)) (now (labels .entry)) points (now (work .entry)) (now (work .exit)) r ⌝ }
 {
     if let Asked::Refused(why) = before_rules(corners, labels, points, work) {
-        closing::clear(work, corners.len() / 3 * 32 + points * 16);
+        closing::clear_needed(corners, points, work);
         return Asked::Refused(why);
     }
     if closing::closed_surface(corners, points, work) {

@@ -1,24 +1,17 @@
 -- `checking::examine` meets its contract: no triangles, a triangle that is refused, or the questions of the whole. Assumes nothing.
-use Prim.Native.Nat.{_+_, _*_, _/_}
-use mathlib.Core.Path.{_≡_, sym, ap, _∙_}
+use mathlib.Core.Path.{sym, ap, _∙_}
 use native.Mathlib.Omega.{arith}
-use lib.ListN.{length}
 use borrow.Author.Needs.{needs}
 use denote.Ref.{now}
 use Rattle.surface.specs.Triangle.{triangles}
-use Rattle.questions.specs.Questions.{needed}
-use Rattle.questions.proofs.Counted.{cleared-same}
 use Rattle.checking.specs.Validate.{asWhole}
 use Rattle.checking.proofs.Sound.{measures, corners-below}
 use Rattle.checking.proofs.Cases.{no-triangles, some-triangles}
 use Rattle.checking.proofs.examine.Statement.{statement}
 use Rattle.checking.proofs.examine.Tie as tie
 
-mul-clear : tie.Need-mul-clear
-mul-clear c = search needs
-
-clear-requires : tie.Need-clear-requires
-clear-requires c κs = search needs
+clear-needed-requires : tie.Need-clear-needed-requires
+clear-needed-requires c κs = search needs
 
 same-length : tie.Need-same-length
 same-length c = search needs
@@ -29,8 +22,7 @@ returns c =
     let s = t .before .before .before .before in
     let ps = now (s .args .points) in
     let cs = now (s .args .corners) in
-    let m : length ps / 3 * 16 ≡ needed ps cs = omega (arith, t .if1 .taken) in
-    record { answer = no-triangles ps cs (t .if1 .taken); words = cleared-same (now (s .args .work)) m (c .before .before .clear .ensures) }
+    record { answer = no-triangles ps cs (t .if1 .taken); words = c .before .before .clear-needed .ensures }
 
 measure-requires : tie.Need-measure-requires
 measure-requires c κs = search needs
@@ -57,17 +49,8 @@ whole-requires c κs =
 enum-known-why : tie.Need-enum-known-why
 enum-known-why c = search needs
 
-mul-clear-2 : tie.Need-mul-clear-2
-mul-clear-2 c = search needs
-
-mul-clear-3 : tie.Need-mul-clear-3
-mul-clear-3 c = search needs
-
-add-clear : tie.Need-add-clear
-add-clear c = search needs
-
-clear-requires-2 : tie.Need-clear-requires-2
-clear-requires-2 c κs = search needs
+clear-needed-requires-2 : tie.Need-clear-needed-requires-2
+clear-needed-requires-2 c κs = search needs
 
 same-length-2 : tie.Need-same-length-2
 same-length-2 c = search needs
@@ -96,28 +79,23 @@ returns-3 c =
     let s = m .before .before .before .before .before in
     let ps = now (s .args .points) in
     let cs = now (s .args .corners) in
-    let n : length cs / 3 * 32 + length ps / 3 * 16 ≡ needed ps cs = omega arith in
     record {
       answer = ap (asWhole (triangles cs)) (sym (q .why .given .1) ∙ m .measure .ensures) ∙ some-triangles ps cs (m .before .if1 .left);
-      words = cleared-same (now (s .args .work)) n (w .clear2 .ensures);
+      words = w .clear-needed2 .ensures;
     }
 
 pub examine-spec : {M : Type 1} → statement M
 examine-spec =
     tie.close
     (tie.spec
-    mul-clear
-    clear-requires
+    clear-needed-requires
     same-length
     returns
     measure-requires
     enum-known-quality
     whole-requires
     enum-known-why
-    mul-clear-2
-    mul-clear-3
-    add-clear
-    clear-requires-2
+    clear-needed-requires-2
     same-length-2
     returns-2
     same-length-3

@@ -3,12 +3,11 @@ use Prim.Native.Nat.{_/_}
 use mathlib.Core.Path.{_≡_, sym, ap, ap₂, _∙_}
 use native.Mathlib.Omega.{arith}
 use lib.ListN.{length}
-use lib.Ieee.{Float}
 use denote.Ref.{now}
 use Rattle.float.specs.Point.{difference}
 use Rattle.float.specs.declared.Point.{Point}
 use Rattle.quality.specs.Quality.{quality, wedge, leastWith}
-use Rattle.checking.specs.Validate.{pointAt, placed, qualityAt, wedgeAt}
+use Rattle.checking.specs.Validate.{pointAt, placed, qualityAt}
 use Rattle.checking.specs.Stages.{triOf}
 use Rattle.checking.proofs.Turns.{Within, within, step-out, step-kept, step-flat}
 use borrow.Author.Needs.{needs}

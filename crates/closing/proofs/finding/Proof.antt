@@ -1,15 +1,12 @@
 -- `closing::finding` meets its contract: where no corner fails it is `Closed`, and what is located from the first that does is what `finding` computes.
-use Prim.Native.Nat.{_+_, _*_, _-_, _/_, _≤_}
-use mathlib.Core.Path.{_≡_, sym}
+use Prim.Native.Nat.{_-_}
+use mathlib.Core.Path.{sym}
 use native.Mathlib.Omega.{arith}
-use lib.ListN.{length}
 use denote.Ref.{now}
 use borrow.Author.Needs.{needs}
 use Rattle.surface.specs.Triangle.{triangles}
 use Rattle.surface.proofs.Findings.{finds-finding, finding-closed}
-use Rattle.closing.specs.Closing.{needed}
-use Rattle.closing.specs.Stages.{used}
-use Rattle.closing.proofs.Whole.{far-on, zeroed-used, zeroed-again, lent-again, all-ringed}
+use Rattle.closing.proofs.Whole.{zeroed-used, zeroed-again, lent-again, all-ringed}
 use Rattle.closing.proofs.finding.Statement.{statement}
 use Rattle.closing.proofs.finding.Tie as tie
 
@@ -38,17 +35,8 @@ locate-requires c κs =
     let u = e .before .before .before in
     (lent-again (u .settle .kept .1 .1 .1 .0) (start u .pre), u .settle .ensures .past .first _ (omega (arith, e .if1 .left)))
 
-mul-clear : tie.Need-mul-clear
-mul-clear c = search needs
-
-mul-clear-2 : tie.Need-mul-clear-2
-mul-clear-2 c = search needs
-
-add-clear : tie.Need-add-clear
-add-clear c = search needs
-
-clear-requires : tie.Need-clear-requires
-clear-requires c κs = search needs
+clear-needed-requires : tie.Need-clear-needed-requires
+clear-needed-requires c κs = search needs
 
 same-length-2 : tie.Need-same-length-2
 same-length-2 c = search needs
@@ -62,14 +50,10 @@ returns-2 c =
     let cs = now (s .args .corners) in
     let p = s .args .points in
     let w = u .settle .last .1 .1 .1 .0 in
-    let w′ = l .locate .last .1 .1 .1 .0 in
-    let m : length cs / 3 * 32 + p * 16 ≡ needed cs p = omega arith in
-    let few : used cs p ≤ needed cs p = omega (arith, s .pre .thirds) in
     record {
       answer = finds-finding (triangles cs) (l .locate .result) (l .locate .ensures .finds);
-      zeroed = zeroed-again cs p (now (s .args .work)) w (k .clear .last .0) (u .settle .ensures .zeroed)
-          (zeroed-used cs p w w′ (k .clear .last .0) (length cs / 3 * 32 + p * 16) m (far-on (used cs p) (needed cs p) w′ w few (l .locate .ensures .far)) (k .clear .ensures));
+      zeroed = zeroed-again cs p (now (s .args .work)) w _ (u .settle .ensures .zeroed) (zeroed-used cs p w (l .locate .last .1 .1 .1 .0) _ (s .pre .thirds) (l .locate .ensures .far) (k .clear-needed .ensures));
     }
 
 pub finding-spec : {M : Type 1} → statement M
-finding-spec = tie.close (tie.spec settle-requires same-length returns sub-locate locate-requires mul-clear mul-clear-2 add-clear clear-requires same-length-2 returns-2)
+finding-spec = tie.close (tie.spec settle-requires same-length returns sub-locate locate-requires clear-needed-requires same-length-2 returns-2)

@@ -81,17 +81,8 @@ run-requires c κs =
     let s = start a in
     starting (now (s .args .points)) (now (s .args .corners)) (now (s .args .labels)) (now (s .args .work)) (now (s .args .entries)) (now (s .args .verdicts)) (now (s .args .journal)) (a .admitted .ensures) (t .enum-told .given .1) (e .before .if1 .left) (e .if2 .left) (a .admitted .kept .1 .1 .1 .0) (j .clear .kept .0) (j .clear .ensures)
 
-mul-clear : tie.Need-mul-clear
-mul-clear c = search needs
-
-mul-clear-2 : tie.Need-mul-clear-2
-mul-clear-2 c = search needs
-
-add-clear : tie.Need-add-clear
-add-clear c = search needs
-
-clear-requires-2 : tie.Need-clear-requires-2
-clear-requires-2 c κs = search needs
+clear-needed-requires : tie.Need-clear-needed-requires
+clear-needed-requires c κs = search needs
 
 same-length-10 : tie.Need-same-length-10
 same-length-10 c = search needs
@@ -111,7 +102,7 @@ same-length-14 c = search needs
 returns-4 : tie.Need-returns-4
 returns-4 c =
     let w = c .before .before in
-    let r = w .before .before .before .before .before .before .before .before .before .before .before .before in
+    let r = w .before .before .before .before .before .before .before .before .before .before .before .before .before in
     let k = r .run .kept in
     let j = r .before .before .before .before .before .before .before .before in
     let e = j .before .before in
@@ -119,7 +110,7 @@ returns-4 c =
     let a = asked t in
     let s = start a in
     edited (now (s .args .points)) (now (s .args .corners)) (now (s .args .labels)) (now (s .args .work)) (now (s .args .entries)) (now (s .args .verdicts)) (now (s .args .journal)) (a .admitted .ensures) (t .enum-told .given .1) (e .before .if1 .left) (e .if2 .left) (a .admitted .kept .1 .1 .1 .0) (j .clear .kept .0) (j .clear .ensures)
-    (r .run .ensures) (k .0) (k .1 .0) (k .1 .1 .1 .1 .1 .1 .0) (w .clear2 .ensures)
+    (r .run .ensures) (k .0) (k .1 .0) (k .1 .1 .1 .1 .1 .1 .0) (w .clear-needed .ensures)
 
 pub edit-spec : {M : Type 1} → statement M
 edit-spec =
@@ -142,10 +133,7 @@ edit-spec =
     returns-3
     clear-requires
     run-requires
-    mul-clear
-    mul-clear-2
-    add-clear
-    clear-requires-2
+    clear-needed-requires
     same-length-10
     same-length-11
     same-length-12

@@ -6,7 +6,6 @@ use lib.ListN.{length, drop}
 use native.Mathlib.Omega.{arith}
 use borrow.Author.Needs.{needs}
 use borrow.Author.Tests.{le-ltb, lt-ltb}
-use denote.Ref.{now}
 use Rattle.questions.specs.Questions.{listed?}
 use Rattle.questions.proofs.All.{all-on, all-out, all-done}
 use Rattle.questions.proofs.corners_listed.Statement.{statement}

@@ -1,17 +1,15 @@
 -- `questions::further` meets its contract: the questions before the rules, then all rules at once, then what is found of (b) and (c).
-use Prim.Native.Nat.{ℕ, _+_, _*_, _/_}
+use Prim.Native.Nat.{ℕ, _+_}
 use mathlib.Core.Path.{_≡_, sym, ap, _∙_}
 use mathlib.Core.List.{List, _++_}
 use mathlib.Core.Bool.{true≢false}
-use native.Mathlib.Omega.{arith}
-use lib.ListN.{length, drop, replicate}
+use lib.ListN.{drop, replicate}
 use borrow.Author.Needs.{needs}
 use denote.Ref.{now}
 use Rattle.closing.specs.Closing.{needed as words}
 use Rattle.closing.proofs.Whole.{far-clear}
 use Rattle.questions.specs.Refusal.{onFinding}
 use Rattle.questions.specs.Questions.{cleared}
-use Rattle.questions.proofs.Counted.{cleared-same}
 use Rattle.questions.proofs.Chain.{before-stops, Fit, before-fit, lent, closed-passed, open-found, twice-twelve, sized-again}
 use Rattle.questions.proofs.further.Statement.{statement}
 use Rattle.questions.proofs.further.Tie as tie
@@ -36,17 +34,8 @@ before-rules-requires c κs = search needs
 enum-known-why : tie.Need-enum-known-why
 enum-known-why c = search needs
 
-mul-clear : tie.Need-mul-clear
-mul-clear c = search needs
-
-mul-clear-2 : tie.Need-mul-clear-2
-mul-clear-2 c = search needs
-
-add-clear : tie.Need-add-clear
-add-clear c = search needs
-
-clear-requires : tie.Need-clear-requires
-clear-requires c κs = search needs
+clear-needed-requires : tie.Need-clear-needed-requires
+clear-needed-requires c κs = search needs
 
 same-length : tie.Need-same-length
 same-length c = search needs
@@ -59,10 +48,9 @@ returns c =
     let s = start b in
     let cs = now (s .args .corners) in
     let p = s .args .points in
-    let n : length cs / 3 * 32 + p * 16 ≡ words cs p = omega arith in
     record {
       answer = before-stops p cs (now (s .args .labels)) (sym (y .why .given .1) ∙ b .before-rules .ensures .answer);
-      words = again (words cs p) (now (s .args .work)) (b .before-rules .last .1 .1 .1 .0) _ (b .before-rules .ensures .far) (cleared-same (b .before-rules .last .1 .1 .1 .0) n (d .clear .ensures));
+      words = again (words cs p) (now (s .args .work)) (b .before-rules .last .1 .1 .1 .0) _ (b .before-rules .ensures .far) (d .clear-needed .ensures);
     }
 
 enum-told : tie.Need-enum-told
@@ -150,10 +138,7 @@ further-spec =
     (tie.spec
     before-rules-requires
     enum-known-why
-    mul-clear
-    mul-clear-2
-    add-clear
-    clear-requires
+    clear-needed-requires
     same-length
     returns
     enum-told

@@ -6,7 +6,6 @@ use lib.ListN.{length, drop}
 use native.Mathlib.Omega.{arith}
 use borrow.Author.Needs.{needs}
 use borrow.Author.Tests.{le-leb, lt-leb}
-use Rattle.surface.specs.Check.{every}
 use Rattle.questions.specs.Questions.{known?}
 use Rattle.questions.proofs.All.{all-on, all-out, all-done}
 use Rattle.questions.proofs.labels_known.Statement.{statement}

@@ -1,14 +1,12 @@
 -- `questions::lent` meets its contract: after 4 the needed words are cleared, and only then.
-use Prim.Native.Nat.{ℕ, _+_, _*_, _/_}
-use mathlib.Core.Path.{_≡_, refl, sym, ap, _∙_}
+use Prim.Native.Nat.{ℕ}
+use mathlib.Core.Path.{refl, sym, ap, _∙_}
 use mathlib.Core.Bool.{_&&_}
-use native.Mathlib.Omega.{arith}
 use lib.Dec.{leb}
-use lib.ListN.{length}
 use borrow.Author.Needs.{needs}
 use denote.Ref.{now}
-use Rattle.questions.specs.Questions.{needed, workAfter}
-use Rattle.questions.proofs.Counted.{Counted, lent-four, words-early, words-late, cleared-same}
+use Rattle.questions.specs.Questions.{workAfter}
+use Rattle.questions.proofs.Counted.{Counted, lent-four, words-early, words-late}
 use Rattle.questions.proofs.lent.Statement.{statement}
 use Rattle.questions.proofs.lent.Tie as tie
 
@@ -46,17 +44,8 @@ returns c = record { answer = sym (c .enum-told .given .1) ∙ c .before .before
 number-requires : tie.Need-number-requires
 number-requires c κs = search needs
 
-mul-clear : tie.Need-mul-clear
-mul-clear c = let g = counted (c .before) in search needs
-
-mul-clear-2 : tie.Need-mul-clear-2
-mul-clear-2 c = search needs
-
-add-clear : tie.Need-add-clear
-add-clear c = let g = counted (c .before) in search needs
-
-clear-requires : tie.Need-clear-requires
-clear-requires c κs = let g = counted (c .before) in search needs
+clear-needed-requires : tie.Need-clear-needed-requires
+clear-needed-requires c κs = let g = counted (c .before) in search needs
 
 same-length-2 : tie.Need-same-length-2
 same-length-2 c = search needs
@@ -69,11 +58,10 @@ returns-2 c =
     let s = start (asked n) in
     let ps = now (s .args .points) in
     let cs = now (s .args .corners) in
-    let same : length cs / 3 * 32 + length ps / 3 * 16 ≡ needed ps cs = omega arith in
     record {
       answer = sym (refused n .why .given .1) ∙ asked n .first-four .ensures;
       words =
-          cleared-same (now (s .args .work)) same (w .clear .ensures)
+          w .clear-needed .ensures
           ∙ words-late ps cs (now (s .args .work)) (n .number .result) (ap (λ (k : ℕ). leb 1 k && leb k 3) (t .if1 .taken))
           ∙ ap (λ (k : ℕ). workAfter k ps cs (now (s .args .work))) (n .number .ensures);
     }
@@ -97,10 +85,7 @@ lent-spec =
     same-length
     returns
     number-requires
-    mul-clear
-    mul-clear-2
-    add-clear
-    clear-requires
+    clear-needed-requires
     same-length-2
     returns-2
     same-length-3

@@ -1,14 +1,13 @@
 -- `questions::mark_labels` meets its contract: at the loop's head the places passed are marked, and none of them clash.
-use Prim.Native.Nat.{ℕ, _+_, _*_, _-_, _/_, _≤_, _<_}
-use mathlib.Core.Path.{_≡_, refl, sym, ap, _∙_, subst}
-use mathlib.Core.List.{List}
+use Prim.Native.Nat.{ℕ, _*_, _-_, _/_, _≤_, _<_}
+use mathlib.Core.Path.{_≡_, refl, sym, _∙_, subst}
 use native.Mathlib.Omega.{arith}
-use lib.ListN.{length, drop, set, length-set}
+use lib.ListN.{length, drop, length-set}
 use lib.Seq.{drop-set-lt}
 use borrow.Author.Needs.{needs}
 use denote.Ref.{now}
 use Rattle.halfedges.specs.Place.{at}
-use Rattle.questions.specs.Stages.{slot, opp}
+use Rattle.questions.specs.Stages.{slot}
 use Rattle.questions.proofs.Labels.{Clash, some-opposed, none-opposed}
 use Rattle.questions.proofs.Marks.{Marks, marks-none, turn-stops, turn-on}
 use Rattle.questions.proofs.mark_labels.Statement.{statement}
