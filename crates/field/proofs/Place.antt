@@ -16,7 +16,8 @@ use Rattle.float.specs.Root.{quanta}
 use Rattle.float.proofs.Nearest.{Quanta, in-quanta, quanta-exact}
 use Rattle.field.specs.Number.{limit, least, half}
 use Rattle.field.specs.Valid.{bounded, place, sideOk}
-use Rattle.field.proofs.Quantum.{ltb-same, lt-values, rounds, minus-scale}
+use Rattle.rounding.proofs.Quantum.{rounds, minus-scale}
+use Rattle.rounding.proofs.Compared.{ltb-same, lt-values}
 
 -- ---- arithmetic with the large numbers left as variables: `omega` stops at one of more than 38 digits
 
