@@ -1,8 +1,9 @@
 -- How far a rounded fraction is from the exact one: at most one part in 2 ^ prec, for a fraction in the range of normal values. In quanta both are whole numbers over one denominator. Assumes nothing.
 use mathlib.Core.Path.{_≡_, refl, sym, ap, ap₂, _∙_, subst, subst₂}
 use mathlib.Core.Bool.{Bool, true, false, not}
+use mathlib.Core.List.{[], _∷_}
 use Prim.Native.Nat.{ℕ, zero, suc, _+_, _-_, _*_, _/_, _%_, _^_, _≤_, _<_, zero-le, compare, Ordering, Ordering·lt, Ordering·eq, Ordering·gt}
-use native.Mathlib.Nat.{le-trans, le-of-eq, le-of-lt, add-le-add, mul-one, one-mul, zero-mul, mul-assoc, mul-comm, mul-left-comm, add-mul, mul-sub, mul-pos, mul-le-mul-right, mul-lt-mul-of-pos-right, lt-of-mul-lt-mul-right, div-add-mod', mod-lt, div-mul-le-self, le-refl}
+use native.Mathlib.Nat.{le-trans, le-of-eq, le-of-lt, add-le-add, mul-one, one-mul, zero-mul, mul-assoc, mul-comm, mul-left-comm, mul-right-comm, add-mul, le-of-mul-le-mul-right, mul-sub, mul-pos, mul-le-mul-right, mul-lt-mul-of-pos-right, lt-of-mul-lt-mul-right, div-add-mod', mod-lt, div-mul-le-self, le-refl}
 use native.Mathlib.Omega.{arith}
 use lib.Dec.{T, isLe, isEq, leb, leb→le, nleb→lt, eqb→eq, lit<}
 use lib.IntN.{ℤ, pos, negℤ, natAbs, _+ℤ_, _-ℤ_, _*ℤ_, negℤ-+ℤ, +ℤ-invr}
@@ -13,8 +14,9 @@ use lib.Ieee.Fits.{round-is}
 use lib.Ieee.Exact.{HasValue, units-val}
 use lib.Ieee.Nearest.{closest}
 use Rattle.integers.proofs.Ring.{neg-mul, difference-of, negative-of}
-use Rattle.integers.proofs.Size.{size-neg}
-use Rattle.rounding.specs.Fraction.{signed, Is, Rounds, Near}
+use Rattle.integers.proofs.Size.{size-neg, size-product}
+use Rattle.integers.proofs.Polynomial.{at, minus, times, identity, vanishes}
+use Rattle.rounding.specs.Fraction.{signed, Is, signedQuanta, Rounds, Near}
 use Rattle.rounding.proofs.Rounded.{add-rounds, is-wholes}
 use Rattle.rounding.proofs.Exactness.{size-of, exact}
 
@@ -178,3 +180,19 @@ add-near f {x} {y} {a} {b} p q small = go (leb (2 ^ prec f) (natAbs z)) (leb→l
           is = subst (λ (u : ℤ). Is (add f x y) u (2 ^ low f)) (sym e) is;
           error = subst (λ (u : ℤ). natAbs u * 2 ^ prec f ≤ natAbs z * 2 ^ low f) (sym (+ℤ-invr (z *ℤ pos (2 ^ low f))) ∙ ap (λ (u : ℤ). u *ℤ pos (2 ^ low f) -ℤ z *ℤ pos (2 ^ low f)) (sym e)) (le-trans (le-of-eq (zero-mul (2 ^ prec f))) zero-le);
         }
+
+-- ---- the error in quanta
+
+pub scale-out : (e p b g : ℕ) → 0 < g → e * g * p ≤ b * g → e * p ≤ b
+scale-out e p b g G h = le-of-mul-le-mul-right (le-trans (le-of-eq (mul-right-comm e p g)) h) G
+
+factor : (n z l : ℤ) → n *ℤ l -ℤ z *ℤ l ≡ (n -ℤ z) *ℤ l
+unfolding vanishes
+factor n z l = identity (minus (times (at 0) (at 2)) (times (at 1) (at 2))) (times (minus (at 0) (at 1)) (at 2)) (n ∷ z ∷ l ∷ []) refl
+
+pub quanta-error : (f : Format) {x : Float} {z : ℤ} → Near f x z (2 ^ low f) → natAbs (signedQuanta f x -ℤ z) * 2 ^ prec f ≤ natAbs z
+quanta-error f {x} {z} r =
+    let n = signedQuanta f x in
+    let l = 2 ^ low f in
+    scale-out (natAbs (n -ℤ z)) (2 ^ prec f) (natAbs z) l (pow-pos (low f))
+    (subst (λ (a : ℕ). a * 2 ^ prec f ≤ natAbs z * l) (ap natAbs (factor n z (pos l)) ∙ size-product (n -ℤ z) (pos l)) (r .error))
