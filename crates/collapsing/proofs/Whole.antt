@@ -18,7 +18,7 @@ use Rattle.sorting.specs.Stable.{part}
 use Rattle.sorting.proofs.Parts.{part-at, part-length, part-more}
 use Rattle.chains.proofs.Flat.{thirds-length}
 use Rattle.chains.specs.Marks.{Lists, Cleared}
-use Rattle.rounds.specs.Renumber.{renumber, renumbered}
+use Rattle.surface.specs.Renumber.{renumber, renumbered}
 use Rattle.rounds.specs.Choices.{Side, collapseStart}
 use Rattle.renumber.specs.Dropped.{becomes}
 use Rattle.oracle.specs.Scene.{Scene}

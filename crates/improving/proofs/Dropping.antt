@@ -14,7 +14,7 @@ use Rattle.chains.proofs.Flat.{thirds-length}
 use Rattle.history.specs.History.{Pair}
 use Rattle.history.specs.Lists.{thenZero}
 use Rattle.rounds.specs.Pass.{State, retain, result}
-use Rattle.rounds.specs.Renumber.{renumber, renumbered}
+use Rattle.surface.specs.Renumber.{renumber, renumbered}
 use Rattle.rounds.specs.Choices.{collapseStart}
 use Rattle.rounds.proofs.Elements.{map-place}
 use Rattle.oracle.specs.Scene.{scene}

@@ -10,7 +10,8 @@ use Rattle.surface.specs.Triangle.{triangles, corners}
 use Rattle.surface.proofs.Flat.{corners-triangles}
 use Rattle.halfedges.specs.Place.{at}
 use Rattle.sides.proofs.Whole.{zero-at}
-use Rattle.rounds.specs.Renumber.{index, met, walk, firstUse, renumbered, number}
+use Rattle.surface.specs.Renumber.{renumbered}
+use Rattle.rounds.specs.Renumber.{index, met, walk, firstUse, number}
 use Rattle.rounds.proofs.FirstUse.{walk-is, met-mem}
 use Rattle.rounds.proofs.Elements.{first-triangles}
 use Rattle.oracle.specs.Points.{gathered}

@@ -19,7 +19,8 @@ use Rattle.sides.proofs.Count.{half}
 use Rattle.chains.proofs.Flat.{thirds-length}
 use Rattle.history.specs.History.{Pair, Entry}
 use Rattle.history.specs.Lists.{thenZero}
-use Rattle.rounds.specs.Renumber.{renumbered, number, firstUse}
+use Rattle.surface.specs.Renumber.{renumbered}
+use Rattle.rounds.specs.Renumber.{number, firstUse}
 use Rattle.rounds.specs.Flips.{FlipState, flipEntry}
 use Rattle.rounds.specs.Choices.{Side, mayFlip, flipStep, flipsOf, flipStart}
 use Rattle.oracle.specs.Points.{gathered}

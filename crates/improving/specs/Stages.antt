@@ -9,7 +9,8 @@ use Rattle.surface.specs.Triangle.{triangles}
 use Rattle.halfedges.specs.Place.{at}
 use Rattle.history.specs.History.{Pair}
 use Rattle.history.specs.Lists.{thenZero}
-use Rattle.rounds.specs.Renumber.{renumbered, number, firstUse}
+use Rattle.surface.specs.Renumber.{renumbered}
+use Rattle.rounds.specs.Renumber.{number, firstUse}
 use Rattle.oracle.specs.Points.{gathered}
 use Rattle.improving.specs.Rounded.{thenPlusZero}
 

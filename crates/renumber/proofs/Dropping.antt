@@ -14,7 +14,7 @@ use Rattle.surface.specs.Edit.{place}
 use Rattle.surface.proofs.Flat.{length-triangles, place-triangles}
 use Rattle.halfedges.specs.Place.{at}
 use Rattle.rounds.specs.Pass.{retain}
-use Rattle.rounds.specs.Renumber.{renumber, renumbered}
+use Rattle.surface.specs.Renumber.{renumber, renumbered}
 use Rattle.rounds.proofs.Loops.{retain-more}
 use Rattle.renumber.specs.Dropped.{goneAt, becomes, Movable, Moved, Droppable, Dropped}
 

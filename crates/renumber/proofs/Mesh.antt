@@ -13,7 +13,8 @@ use Rattle.surface.proofs.Flat.{triangles-corners, corners-triangles}
 use Rattle.halfedges.specs.Place.{at}
 use Rattle.history.specs.History.{Pair}
 use Rattle.rounds.specs.Pass.{State, retain, result}
-use Rattle.rounds.specs.Renumber.{renumbered, met, firstUse, walk}
+use Rattle.surface.specs.Renumber.{renumbered}
+use Rattle.rounds.specs.Renumber.{met, firstUse, walk}
 use Rattle.rounds.proofs.Elements.{first-triangles}
 use Rattle.oracle.specs.Points.{gathered}
 use Rattle.oracle.specs.Round.{Mesh, numbered}

@@ -9,7 +9,7 @@ use Rattle.surface.specs.Triangle as Triangle
 use Rattle.surface.specs.Triangle.{triangles}
 use Rattle.halfedges.specs.Place.{at}
 use Rattle.rounds.specs.Pass.{retain}
-use Rattle.rounds.specs.Renumber.{renumbered}
+use Rattle.surface.specs.Renumber.{renumbered}
 
 -- which of n triangles are gone: those whose word, from `gone` on, is not 0
 abbrev pub goneAt : List ℕ → ℕ → ℕ → List Bool

@@ -16,7 +16,8 @@ use Rattle.surface.proofs.Surface.{Reach, stop, go, reach-eq, Surface}
 use Rattle.surface.proofs.Bridge.{in-use, closed-surface, surface-closed}
 use Rattle.surface.proofs.Euler.{use-has}
 use Rattle.surface.specs.Label.{carries}
-use Rattle.rounds.specs.Renumber.{renumber, renumbered, OneToOne}
+use Rattle.surface.specs.Renumber.{renumber, renumbered}
+use Rattle.rounds.specs.Renumber.{OneToOne}
 
 pub has-number : (f : ℕ → ℕ) {x y z : ℕ} {ts : List Tri} → Has x y z ts → Has (f x) (f y) (f z) (renumbered f ts)
 has-number f (here (r0 p q r)) = here (r0 (ap f p) (ap f q) (ap f r))

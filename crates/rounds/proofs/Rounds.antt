@@ -17,7 +17,8 @@ use Rattle.history.specs.History.{Pair, Entry}
 use Rattle.rounds.specs.Accepted.{Accepted}
 use Rattle.rounds.specs.Pass.{retain, State, Reached, begun, collapsed, collapseEntry, result}
 use Rattle.rounds.specs.Flips.{FlipState, FlipReached, flips-begun, flipped, flipEntry, flipResult}
-use Rattle.rounds.specs.Renumber.{renumber, renumbered, OneToOne, firstUse, number}
+use Rattle.surface.specs.Renumber.{renumber, renumbered}
+use Rattle.rounds.specs.Renumber.{OneToOne, firstUse, number}
 use Rattle.rounds.specs.Choices.{Decision, Side, collapseStart, collapsePass, collapsesOf, flipStart, flipPass, flipsOf, dropped, byFirstUse, flippedAll, Plan, rounded, improved}
 use Rattle.rounds.specs.Round.{Only, numbered, Round, Rounds, no-more, one-more}
 use Rattle.rounds.proofs.Collapses.{retain-length, fits-length, Kept, kept}

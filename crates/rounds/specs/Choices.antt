@@ -11,7 +11,8 @@ use Rattle.surface.specs.Label.{carries}
 use Rattle.history.specs.History.{Pair, Entry, covered, exists, label}
 use Rattle.rounds.specs.Pass.{near, marked, moved, State, collapseEntry, result}
 use Rattle.rounds.specs.Flips.{FlipState, flipAt, flipEntry, flipResult}
-use Rattle.rounds.specs.Renumber.{renumbered, number}
+use Rattle.surface.specs.Renumber.{renumbered}
+use Rattle.rounds.specs.Renumber.{number}
 
 -- the common neighbours of a and b are c and d
 unfoldable pub common : List Tri → ℕ → ℕ → ℕ → ℕ → Bool

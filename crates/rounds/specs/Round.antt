@@ -11,7 +11,8 @@ use Rattle.surface.specs.Euler.{Below, SameEuler}
 use Rattle.surface.specs.Check.{every}
 use Rattle.history.specs.History.{Pair, Entry}
 use Rattle.rounds.specs.Accepted.{Accepted}
-use Rattle.rounds.specs.Renumber.{renumbered, OneToOne}
+use Rattle.surface.specs.Renumber.{renumbered}
+use Rattle.rounds.specs.Renumber.{OneToOne}
 
 abbrev pub Only : ℕ → List Entry → Type 0
 Only k es = every (λ (e : Entry). eqb (e .kind) k) es ≡ true

@@ -17,7 +17,7 @@ use Rattle.surface.proofs.Reading.{Reads, r0, r1, r2}
 use Rattle.surface.proofs.Flat.{place-triangles}
 use Rattle.surface.proofs.Hinged.{has-either}
 use Rattle.rounds.specs.Pass.{near, moved, State}
-use Rattle.rounds.specs.Renumber.{renumber, renumbered}
+use Rattle.surface.specs.Renumber.{renumber, renumbered}
 use Rattle.rounds.specs.Choices.{collapseStep}
 use Rattle.rounds.proofs.Elements.{map-place, moved-place, moved-length, marked-place, marked-length}
 use Rattle.halfedges.specs.Place.{nx, at}

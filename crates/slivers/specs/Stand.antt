@@ -8,7 +8,7 @@ use lib.ListN.{length, getD}
 use Rattle.surface.specs.Triangle.{triangles}
 use Rattle.history.specs.History.{Pair}
 use Rattle.rounds.specs.Pass.{State}
-use Rattle.rounds.specs.Renumber.{renumbered}
+use Rattle.surface.specs.Renumber.{renumbered}
 use Rattle.halfedges.specs.Place.{at}
 use Rattle.renumber.specs.Dropped.{becomes}
 use Rattle.slivers.specs.Touch.{isTouched}
