@@ -74,10 +74,16 @@ module _ (ps : List Float) (cs ls work : List ℕ) (q v : Float) (e : validated 
       go (asked.Refused why) p = absurd (never (sym (by-first ps cs ls work p) ∙ e))
 
   -- and with at least one triangle the others
+  accepted-whole : 0 < length cs → Yes (triangles cs) (measured ps cs) q v
+  accepted-whole some = whole-yes (triangles cs) (measured ps cs) q v (some-triangles ps cs (λ z. omega arith) ∙ sym (by-first ps cs ls work accepted-lent) ∙ e)
+
+  pub accepted-measured : 0 < length cs → measured ps cs ≡ Accepted q v
+  accepted-measured some = accepted-whole some .same
+
   pub sound : 0 < length cs → Sound ps cs q v
   sound some =
       let c = lent-passed ps cs ls work accepted-lent .0 in
-      let y = whole-yes (triangles cs) (measured ps cs) q v (some-triangles ps cs (λ z. omega arith) ∙ sym (by-first ps cs ls work accepted-lent) ∙ e) in
+      let y = accepted-whole some in
       let m = measures ps cs q v (y .same) in
       let r = (finding-closed (triangles cs)) .0 (found-passed _ (y .closed)) in
       record {

@@ -19,7 +19,7 @@ pub enum Verdict {
 }
 
 // The point of a number.
-fn point(points: &[f64], i: usize) -> float::Point
+pub fn point(points: &[f64], i: usize) -> float::Point
     requires { ⌜ i < length (now points) / 3 ⌝ }
     ensures { λ r. ⌜ r ≡ pointAt (now (points .entry)) i ⌝ }
 {

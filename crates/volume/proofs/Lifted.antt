@@ -1,0 +1,114 @@
+-- The determinant of a triangle as an unsigned number: scaled to whole numbers and lifted by 2 ^ 51, which makes it positive. Both steps are exact, and so is the cast. Assumes nothing.
+use mathlib.Core.Path.{_≡_, refl, sym, ap, _∙_, subst, subst₂}
+use mathlib.Core.Bool.{Bool, false, cond}
+use mathlib.Core.List.{List}
+use Prim.Native.Nat.{ℕ, suc, _-_, _*_, _/_, _^_, _≤_, _<_}
+use native.Mathlib.Nat.{mul-one, le-of-lt, lt-of-lt-of-le}
+use native.Mathlib.Omega.{arith}
+use lib.Dec.{T, lit≤, lit<, le→leb}
+use borrow.Author.Tests.{le-ltb}
+use lib.IntN.{ℤ, pos, negsuc, natAbs, _+ℤ_}
+use lib.ListN.{length}
+use lib.Pow.{pow-pos}
+use lib.Ieee.{Float, binary64, ofBits, ofInt, round, add, inFloat, inUnsigned, toUnsigned}
+use lib.Ieee.Back.{round-whole, unsigned-back, whole-unique}
+use lib.Ieee.Exact.{HasValue}
+use lib.Ieee.Fits.{add-fits, ofInt-fits}
+use lib.Ieee.Scale.{round-same}
+use Rattle.float.specs.Point.{plus, times, dotted, crossed}
+use Rattle.surface.specs.Triangle.{tri}
+use Rattle.checking.specs.Validate.{placed}
+use Rattle.rounding.specs.Fraction.{Is}
+use Rattle.rounding.proofs.Rounded.{mul-at, unlike-false, not-negative}
+use Rattle.rounding.proofs.Exactness.{exact}
+use Rattle.rounding.proofs.Bounded.{Holds, holds-plus}
+use Rattle.units.specs.Units.{AllOnUnits, unitsAt}
+use Rattle.volume.specs.Six.{sixAt}
+use Rattle.volume.specs.Stages.{lifted}
+use Rattle.volume.proofs.Wedge.{mostSix, placed-holds, determinant-holds}
+
+-- 2 ^ 30 and 2 ^ 51
+abbrev pub scale : Float
+scale = ofBits binary64 0x41d0_0000_0000_0000
+
+abbrev pub lift : Float
+lift = ofBits binary64 0x4320_0000_0000_0000
+
+scale-value : HasValue scale false 1073741824 1
+unfolding ofBits
+scale-value = (refl, refl)
+
+lift-holds : Holds lift (pos 2251799813685248) 0 2251799813685248
+unfolding ofBits
+lift-holds = record { is = record { sign = false; size = 2251799813685248; value = (refl, refl); same = refl }; most = lit≤ tt }
+
+-- d is z of 2 ^ -30: scaled, it is z
+scaled-holds : {d : Float} {z : ℤ} → Holds d z 30 mostSix → Holds (times d scale) z 0 mostSix
+scaled-holds {d} {z} h =
+    let v = h .is in
+    let e : times d scale ≡ round binary64 (v .sign) (v .size) 1 =
+    mul-at binary64 d scale (v .sign) false (v .size) (2 ^ 30) 1073741824 1 (pow-pos 30) (lit< tt) (v .value) scale-value
+    ∙ ap (λ (s : Bool). round binary64 s (v .size * 1073741824) (2 ^ 30 * 1)) (unlike-false (v .sign))
+    ∙ round-same binary64 (v .sign) (v .size * 1073741824) (2 ^ 30 * 1) (v .size) 1 (lit< tt) (lit< tt) (mul-one (v .size * 1073741824)) in
+    record { is = exact binary64 0 (record { sign = v .sign; size = v .size; value = e; same = v .same }) (lt-of-lt-of-le (fewer (h .most)) (lit≤ {m = 2251799813685248} {n = 2 ^ 53} tt)) (lit≤ tt); most = h .most }
+  where
+    fewer : {n : ℕ} → n ≤ mostSix → n < 2251799813685248
+    fewer {n} l = omega arith
+
+pub record Positive (z : ℤ) : Type 0 where
+  pub same : pos (lifted z) ≡ z +ℤ pos 2251799813685248
+  pub above : 0 < lifted z
+  pub below : lifted z < 4503599627370496
+
+pub lifted-positive : (z : ℤ) → natAbs z ≤ mostSix → Positive z
+lifted-positive (pos n) h = record { same = refl; above = omega arith; below = omega arith }
+lifted-positive (negsuc n) h =
+    let e : negsuc n +ℤ pos 2251799813685248 ≡ pos (2251799813685248 - suc n) =
+    ap (λ (b : Bool). cond b (negsuc (suc n - suc 2251799813685248)) (pos (2251799813685248 - suc n))) (le-ltb 2251799813685248 (suc n) (omega arith)) in
+    record {
+      same = ap (λ (z : ℤ). pos (natAbs z)) e ∙ sym e;
+      above = subst (λ (z : ℤ). 0 < natAbs z) (sym e) (more h);
+      below = subst (λ (z : ℤ). natAbs z < 4503599627370496) (sym e) (less h);
+    }
+  where
+    more : suc n ≤ mostSix → 0 < 2251799813685248 - suc n
+    more l = omega arith
+
+    less : suc n ≤ mostSix → 2251799813685248 - suc n < 4503599627370496
+    less l = omega arith
+
+fits-float : (n : ℕ) → n ≤ 2 ^ 53 → T (inFloat binary64 (pos n))
+unfolding inFloat
+fits-float n h = le→leb n (2 ^ 53) h
+
+-- a positive whole number that a value is, as an unsigned integer
+unsigned : (x y : Float) (n : ℕ) → 0 < n → n < 4503599627370496 → Is (add binary64 x y) (pos n) 1 → T (inUnsigned binary64 64 (add binary64 x y)) × (toUnsigned 64 (add binary64 x y) ≡ n)
+unfolding ofInt
+unsigned x y n h l v =
+    let q = not-negative (v .sign) (v .size) n h (v .same) in
+    let small : n ≤ 2 ^ 53 = le-of-lt (lt-of-lt-of-le l (lit≤ {m = 4503599627370496} {n = 2 ^ 53} tt)) in
+    let e : add binary64 x y ≡ round binary64 false n 1 =
+    whole-unique binary64 (add binary64 x y) (round binary64 false n 1) false n (add-fits binary64 x y) (ofInt-fits binary64 (pos n))
+    (subst₂ (λ (s : Bool) (a : ℕ). HasValue (add binary64 x y) s a 1) (q .0) (q .1) (v .value)) (round-whole binary64 false n small) in
+    subst (λ (f : Float). T (inUnsigned binary64 64 f) × (toUnsigned 64 f ≡ n)) (sym e) (unsigned-back binary64 64 n (fits-float n small) (lt-of-lt-of-le l (lit≤ {m = 4503599627370496} {n = 2 ^ 64} tt)))
+
+pub lifted-cast : {d : Float} {z : ℤ} → Holds d z 30 mostSix → T (inUnsigned binary64 64 (plus (times d scale) lift)) × (toUnsigned 64 (plus (times d scale) lift) ≡ lifted z)
+lifted-cast {d} {z} h =
+    let p = lifted-positive z (h .most) in
+    let g = holds-plus binary64 0 mostSix 2251799813685248 (lit< tt) (lit≤ tt) (scaled-holds h) lift-holds in
+    unsigned (times d scale) lift (lifted z) (p .above) (p .below) (subst (λ (k : ℤ). Is (plus (times d scale) lift) k 1) (sym (p .same)) (g .is))
+
+-- ---- the triangle of three corners
+
+module _ (points : List Float) (on : AllOnUnits points) (a b c : ℕ) (A : a < length points / 3) (B : b < length points / 3) (C : c < length points / 3) where
+  abbrev number : ℤ
+  number = sixAt (unitsAt points 0) (unitsAt points) (tri a b c)
+
+  corner-holds : Holds (dotted (placed points a) (crossed (placed points b) (placed points c))) number 30 mostSix
+  corner-holds = determinant-holds (placed-holds points on a A) (placed-holds points on b B) (placed-holds points on c C)
+
+  pub share-positive : Positive number
+  share-positive = lifted-positive number (corner-holds .most)
+
+  pub share-cast : (d : Float) → d ≡ dotted (placed points a) (crossed (placed points b) (placed points c)) → T (inUnsigned binary64 64 (plus (times d scale) lift)) × (toUnsigned 64 (plus (times d scale) lift) ≡ lifted number)
+  share-cast d e = subst (λ (x : Float). T (inUnsigned binary64 64 (plus (times x scale) lift)) × (toUnsigned 64 (plus (times x scale) lift) ≡ lifted number)) (sym e) (lifted-cast corner-holds)
