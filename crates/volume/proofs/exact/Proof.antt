@@ -126,7 +126,7 @@ many-small : (c : tie.After-loop Inv-loop μ-loop) → length (now (c .before .b
 many-small c = omega (arith, c .before .loop .inv .0 .few)
 
 cast-lifted : tie.Need-cast-lifted Inv-loop μ-loop
-cast-lifted c = word-fits _ (many-small c)
+cast-lifted c = word-fits _ (omega (arith, c .before .loop .inv .0 .few))
 
 cast-t30 : tie.Need-cast-t30 Inv-loop μ-loop
 cast-t30 c = word-fits _ (high-small c)
