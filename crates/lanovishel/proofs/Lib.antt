@@ -1,2 +1,2 @@
--- `Volume`: what a call of `lanovishel_check` reports is what the laws of `volume` speak of.
+-- `Volume`: page twelve's next printing, of calls.
 pub mod Volume

@@ -1,4 +1,4 @@
--- A call that answers 0 reports the volume of an accepted surface.
+-- A call that answers 0 reports the volume of an accepted surface: the laws of `volume` hold of it.
 use mathlib.Core.Path.{_≡_, refl, sym, ap, ap₂, _∙_}
 use mathlib.Core.List.{List, [], _∷_}
 use Prim.Native.Nat.{ℕ}
@@ -8,7 +8,9 @@ use Rattle.checking.specs.Validate.{validated}
 use Rattle.checking.specs.declared.Verdict.{Verdict}
 use Rattle.checking.specs.declared.Verdict.the-variants.{Accepted, Refused}
 use Rattle.checking.proofs.Laws.{refused-some}
-use Rattle.lanovishel.specs.Volume.{CallsReport}
+use Rattle.volume.specs.Volume.{Reports, ReportLaws}
+use Rattle.volume.proofs.Volume.{report-laws-of}
+use Rattle.lanovishel.specs.Volume.{Answered}
 
 module _ (points : List Float) (corners labels work : List ℕ) where
   accepted : (quality volume : Float) → 0 ≡ numberOf (validated points corners labels work)
@@ -24,14 +26,15 @@ module _ (points : List Float) (corners labels work : List ℕ) where
           p ∙ ap₂ Accepted (sym first) (sym second)
       go (Refused why) p = absurd (refused-some points corners labels work why p (sym (z ∙ ap numberOf p)))
 
-pub calls-report : CallsReport
-calls-report = record {
-  reports = λ {points} {corners} {labels} {work} {work′} {place′} {quality} {volume} c s u. record {
-    labels = labels;
-    work = work;
-    quality = quality;
-    accepted = accepted points corners labels work quality volume (c .answer) (c .values);
-    some = s;
-    units = u;
-  };
+reports : (points : List Float) (corners : List ℕ) (volume : Float) → Answered points corners volume → Reports points corners volume
+reports points corners volume a = record {
+  labels = a .labels;
+  work = a .work;
+  quality = a .quality;
+  accepted = accepted points corners (a .labels) (a .work) (a .quality) volume (a .call .answer) (a .call .values);
+  some = a .some;
+  units = a .units;
 }
+
+pub call-laws : ReportLaws Answered
+call-laws = report-laws-of Answered reports

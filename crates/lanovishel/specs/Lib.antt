@@ -1,4 +1,4 @@
--- What the exported functions promise of every call: the answer, and each lent list afterwards. `Volume` joins a call of `lanovishel_check` to the laws of `volume`.
+-- What the exported functions promise of every call: the answer, and each lent list afterwards. `Volume` is the call of which the laws of `volume` hold.
 pub mod Check
 pub mod Edit
 pub mod Improve

@@ -6,12 +6,25 @@ use native.Mathlib.Nat.{mul-pos, eq-of-mul-eq-mul-right, mul-lt-mul-of-pos-right
 use native.Mathlib.Omega.{arith}
 use lib.Dec.{eqb, ltb}
 use borrow.Author.Tests.{eqb-true, eqb-false, eq-eqb, ne-eqb, ltb-true, ltb-false, lt-ltb, le-ltb}
-use lib.IntN.{pos, negℤ, natAbs, pos-ne-negsuc}
+use lib.IntN.{ℤ, pos, negℤ, natAbs, pos-ne-negsuc}
 use lib.Ieee.{Float, nan, inf, fin, up, down, lt, eq, le, below, level}
 use lib.Ieee.Exact.{HasValue}
 use lib.Ieee.Fits.{down-pos}
 use Rattle.rounding.proofs.Quantum.{over-first, over-second}
 use Rattle.rounding.specs.Fraction.{signed}
+
+-- ---- over one denominator
+
+-- a comparison that goes by the signs and the sizes of two numbers, and does not depend on their unit
+over-one : (g : Bool → ℕ → Bool → ℕ → Bool) → ((s t : Bool) (a b k : ℕ) → 0 < k → g s (a * k) t (b * k) ≡ g s a t b)
+    → (u v : Bool) (m n : ℕ) (e d : ℤ) (s t : Bool) (a b c : ℕ) → 0 < c → HasValue (fin u m e) s a c → HasValue (fin v n d) t b c → g u (m * up e * down d) v (n * up d * down e) ≡ g s a t b
+over-one g scale u v m n e d s t a b c h p q =
+    let x = m * up e * down d in
+    let y = n * up d * down e in
+    ap₂ (λ (i j : Bool). g i x j y) (p .0) (q .0)
+    ∙ sym (scale s t x y c h)
+    ∙ ap₂ (λ (i j : ℕ). g s i t j) (over-first (m * up e) a c (down e) (down d) (p .1)) (over-second (n * up d) b c (down d) (down e) (q .1))
+    ∙ scale s t a b (down e * down d) (mul-pos (down-pos e) (down-pos d))
 
 -- ---- less
 
@@ -37,13 +50,7 @@ lt-values nan y s t a b c h p q = absurd p
 lt-values (inf u) y s t a b c h p q = absurd p
 lt-values (fin u m e) nan s t a b c h p q = absurd q
 lt-values (fin u m e) (inf v) s t a b c h p q = absurd q
-lt-values (fin u m e) (fin v n d) s t a b c h p q =
-    let x = m * up e * down d in
-    let y = n * up d * down e in
-    ap₂ (λ (i j : Bool). below i x j y) (p .0) (q .0)
-    ∙ sym (below-scale s t x y c h)
-    ∙ ap₂ (λ (i j : ℕ). below s i t j) (over-first (m * up e) a c (down e) (down d) (p .1)) (over-second (n * up d) b c (down d) (down e) (q .1))
-    ∙ below-scale s t a b (down e * down d) (mul-pos (down-pos e) (down-pos d))
+lt-values (fin u m e) (fin v n d) s t a b c h p q = over-one below below-scale u v m n e d s t a b c h p q
 
 -- ---- equality
 
@@ -67,13 +74,7 @@ eq-values nan y s t a b c h p q = absurd p
 eq-values (inf u) y s t a b c h p q = absurd p
 eq-values (fin u m e) nan s t a b c h p q = absurd q
 eq-values (fin u m e) (inf v) s t a b c h p q = absurd q
-eq-values (fin u m e) (fin v n d) s t a b c h p q =
-    let x = m * up e * down d in
-    let y = n * up d * down e in
-    ap₂ (λ (i j : Bool). level i x j y) (p .0) (q .0)
-    ∙ sym (level-scale s t x y c h)
-    ∙ ap₂ (λ (i j : ℕ). level s i t j) (over-first (m * up e) a c (down e) (down d) (p .1)) (over-second (n * up d) b c (down d) (down e) (q .1))
-    ∙ level-scale s t a b (down e * down d) (mul-pos (down-pos e) (down-pos d))
+eq-values (fin u m e) (fin v n d) s t a b c h p q = over-one level level-scale u v m n e d s t a b c h p q
 
 -- values are level if and only if they are the same number
 pub level-same : (s t : Bool) (a b : ℕ) → level s a t b ≡ true → signed s a ≡ signed t b

@@ -27,7 +27,7 @@ use Rattle.volume.specs.Six.{six}
 use Rattle.volume.specs.Error.{Alike}
 use Rattle.volume.specs.Volume.{Reports, ListedAnew, sixOf}
 use Rattle.volume.proofs.Reported.{is-sound}
-use Rattle.volume.proofs.Volume.{volume-laws}
+use Rattle.volume.proofs.Volume.{report-laws}
 
 abbrev o : Float
 o = fin false 0 (pos 0)
@@ -126,7 +126,7 @@ cube-corner-anew = record {
 
 pub cube-corner-alike : Alike 4 (volumeOf (verdict points corners)) (volumeOf (verdict points′ corners′))
 unfolding triangles
-cube-corner-alike = volume-laws .relisted-near cube-corner cube-corner′ cube-corner-anew
+cube-corner-alike = report-laws .relisted-near cube-corner cube-corner′ cube-corner-anew
 
 -- ---- its volume
 

@@ -17,7 +17,7 @@ use Rattle.surface.specs.PageTwelve.{EachTurns, none, more}
 use Rattle.surface.proofs.Rings.{length-perm}
 use Rattle.units.specs.Units.{WholePoint, unitsAt}
 use Rattle.volume.specs.Error.{Within, Alike}
-use Rattle.volume.specs.Volume.{Balanced, ListedAnew, Reports, many, sixOf, VolumeLaws}
+use Rattle.volume.specs.Volume.{Balanced, ListedAnew, Reports, many, sixOf, SixLaws, ReportLaws}
 use Rattle.volume.specs.Exact.{Measurable}
 use Rattle.volume.proofs.Sides.{paired-balanced}
 use Rattle.volume.proofs.Origin.{six-origin}
@@ -74,17 +74,25 @@ reported-near : {points : List Float} {corners : List ℕ} {volume : Float} → 
 reported-near {points} {corners} {volume} r o =
     subst (λ (s : ℤ). Within (many corners) volume s) (six-origin (unitsAt points) (triangles corners) (is-balanced r) (unitsAt points 0) o) (reported-within r)
 
-pub volume-laws : VolumeLaws
-volume-laws = record {
-  any-listing = λ place ts us l o. six-listing o place l;
-  any-origin = six-origin;
-  one-volume = one-volume;
-  reported-near = reported-near;
-  relisted-near = λ {points} {points′} {corners} {corners′} {volume} {volume′} r r′ a.
-      let o = unitsAt points 0 in
-      alike-of (reported-near r o)
-      (subst₂ (λ (n : ℕ) (s : ℤ). Within n volume′ s) (many-anew a) (sym (one-volume r a o o)) (reported-near r′ o));
+relisted-near : {points points′ : List Float} {corners corners′ : List ℕ} {volume volume′ : Float} → Reports points corners volume → Reports points′ corners′ volume′
+    → ListedAnew points corners points′ corners′ → Alike (many corners) volume volume′
+relisted-near {points} {points′} {corners} {corners′} {volume} {volume′} r r′ a =
+    let o = unitsAt points 0 in
+    alike-of (reported-near r o) (subst₂ (λ (n : ℕ) (s : ℤ). Within n volume′ s) (many-anew a) (sym (one-volume r a o o)) (reported-near r′ o))
+
+pub six-laws : SixLaws
+six-laws = record { any-listing = λ place ts us l o. six-listing o place l; any-origin = six-origin }
+
+-- of whatever says as much as `Reports`
+pub report-laws-of : (Reported : List Float → List ℕ → Float → Type 0) → ((points : List Float) (corners : List ℕ) (volume : Float) → Reported points corners volume → Reports points corners volume) → ReportLaws Reported
+report-laws-of Reported says = record {
+  one-volume = λ {points} {points′} {corners} {corners′} {volume} r a. one-volume (says points corners volume r) a;
+  reported-near = λ {points} {corners} {volume} r. reported-near (says points corners volume r);
+  relisted-near = λ {points} {points′} {corners} {corners′} {volume} {volume′} r r′ a. relisted-near (says points corners volume r) (says points′ corners′ volume′ r′) a;
 }
+
+pub report-laws : ReportLaws Reports
+report-laws = report-laws-of Reports (λ points corners volume r. r)
 
 -- an accepted surface may be handed to `exact`
 pub measurable : {points : List Float} {corners : List ℕ} {volume : Float} → Reports points corners volume → Measurable points corners

@@ -1,4 +1,4 @@
--- Page twelve of the user's manual, next printing: "triangle order and the choice of first point don't matter to the volume either" (document 02, F-6). Statements only; `volume-laws` of `proofs/Volume` proves them.
+-- Page twelve of the user's manual, next printing: "triangle order and the choice of first point don't matter to the volume either" (document 02, F-6). Statements only; `six-laws` and `report-laws` of `proofs/Volume` prove them.
 use Prim.Native.Nat.{ℕ, _<_}
 use mathlib.Core.Path.{_≡_}
 use mathlib.Core.List.{List}
@@ -26,15 +26,6 @@ pub record ListedAnew (points : List Float) (corners : List ℕ) (points′ : Li
   pub kept : (k : ℕ) → k < length corners → unitsAt points′ (number (getD corners k 0)) ≡ unitsAt points (getD corners k 0)
   pub listed : Relisted (renumbered number (triangles corners)) (triangles corners′)
 
--- an accepted surface of at least one triangle, whose coordinates are all whole units in range, with the volume that is reported (of a call that answers 0 it is the second number: `calls-report` of `lanovishel`)
-pub record Reports (points : List Float) (corners : List ℕ) (volume : Float) : Type 0 where
-  pub labels : List ℕ
-  pub work : List ℕ
-  pub quality : Float
-  pub accepted : validated points corners labels work ≡ Accepted quality volume
-  pub some : 0 < length corners
-  pub units : AllOnUnits points
-
 -- how many triangles
 abbrev pub many : List ℕ → ℕ
 many corners = length (triangles corners)
@@ -43,16 +34,32 @@ many corners = length (triangles corners)
 abbrev pub sixOf : List Float → List ℕ → WholePoint → ℤ
 sixOf points corners o = six o (unitsAt points) (triangles corners)
 
-pub record VolumeLaws : Type 0 where
+-- ---- the exact volume
+
+pub record SixLaws : Type 0 where
   -- "triangle order [doesn't] matter to the volume either": of any triangles over any whole points, in any order, with any turn's beginning
   pub any-listing : (place : ℕ → WholePoint) (ts us : List Tri) → Relisted ts us → (o : WholePoint) → six o place ts ≡ six o place us
   -- "the choice of first point [doesn't] matter to the volume either": any point may be the origin
   pub any-origin : (place : ℕ → WholePoint) (ts : List Tri) → Balanced ts → (o o′ : WholePoint) → six o place ts ≡ six o′ place ts
+
+-- ---- the reported volume
+
+-- an accepted surface of at least one triangle, whose coordinates are all whole units in range, with the volume that is reported
+pub record Reports (points : List Float) (corners : List ℕ) (volume : Float) : Type 0 where
+  pub labels : List ℕ
+  pub work : List ℕ
+  pub quality : Float
+  pub accepted : validated points corners labels work ≡ Accepted quality volume
+  pub some : 0 < length corners
+  pub units : AllOnUnits points
+
+-- What holds wherever a volume is reported: of `Reports`, and so of every call of `lanovishel_check` that answers 0 (`lanovishel/specs/Volume`).
+pub record ReportLaws (Reported : List Float → List ℕ → Float → Type 0) : Type 0 where
   -- "triangle order and the choice of first point don't matter to the volume either": an accepted surface has one exact volume, however it is listed
-  pub one-volume : {points points′ : List Float} {corners corners′ : List ℕ} {volume : Float} → Reports points corners volume → ListedAnew points corners points′ corners′
+  pub one-volume : {points points′ : List Float} {corners corners′ : List ℕ} {volume : Float} → Reported points corners volume → ListedAnew points corners points′ corners′
       → (o o′ : WholePoint) → sixOf points corners o ≡ sixOf points′ corners′ o′
   -- "triangle order and the choice of first point don't matter to the volume either": of that one volume the reported one is within m * m / 2 ^ 33
-  pub reported-near : {points : List Float} {corners : List ℕ} {volume : Float} → Reports points corners volume → (o : WholePoint) → Within (many corners) volume (sixOf points corners o)
+  pub reported-near : {points : List Float} {corners : List ℕ} {volume : Float} → Reported points corners volume → (o : WholePoint) → Within (many corners) volume (sixOf points corners o)
   -- "triangle order and the choice of first point don't matter to the volume either": two listings, both accepted, report volumes that differ by at most twice that
-  pub relisted-near : {points points′ : List Float} {corners corners′ : List ℕ} {volume volume′ : Float} → Reports points corners volume → Reports points′ corners′ volume′
+  pub relisted-near : {points points′ : List Float} {corners corners′ : List ℕ} {volume volume′ : Float} → Reported points corners volume → Reported points′ corners′ volume′
       → ListedAnew points corners points′ corners′ → Alike (many corners) volume volume′
