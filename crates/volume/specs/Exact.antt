@@ -1,5 +1,5 @@
 -- What `exact` is handed and what it answers: six times the exact volume in two words, high * 2 ^ 31 + low. Definitions only.
--- (A unit cubed is 6 * 2 ^ 30 of what `six` counts, 3 * 2 ^ 31: so the high word, with whether the low one is 0, says how many of them are started.)
+-- (A volume of 1 is 6 * 2 ^ 30 of what `six` counts, 3 * 2 ^ 31: so the high word, with whether the low one is 0, says how many of them are started.)
 use Prim.Native.Nat.{ℕ, _/_, _%_, _^_, _≤_, _<_}
 use mathlib.Core.Path.{_≡_}
 use mathlib.Core.List.{List}
