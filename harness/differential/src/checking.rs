@@ -6,7 +6,7 @@ use crate::{
     random::Random,
     surfaces::{self, Surface},
 };
-use lanovishel::raw;
+use lanovishel::{Measured, Refusal, raw};
 
 /// The call as the model leaves it.
 pub fn model(before: &Call) -> Call {
@@ -144,6 +144,17 @@ pub fn ours(before: &Call) -> Call {
         )
     };
     after
+}
+
+/// What the safe function says of a surface.
+pub fn check(surface: &Surface) -> Result<Measured, Refusal> {
+    let mut work = vec![1; surface.work_words()];
+    lanovishel::check(
+        &surface.points,
+        &surface.corners,
+        &surface.labels,
+        &mut work,
+    )
 }
 
 /// A random call: any surface, altered, often damaged, with enough work words or not.

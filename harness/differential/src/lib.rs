@@ -16,16 +16,26 @@ pub mod random;
 pub mod roots;
 pub mod surfaces;
 pub mod vectors;
+pub mod volume;
+pub mod whole;
 
 use random::Random;
 use std::env;
 
 /// Takes random cases, `usual` of them or `LANOVISHEL_RUNS`, and says how many.
 pub fn cases(usual: u64, mut case: impl FnMut(&mut Random) -> Result<(), String>) -> u64 {
+    seeded_cases(usual, |_, random| case(random))
+}
+
+/// The same, and each case is told its seed.
+pub fn seeded_cases(
+    usual: u64,
+    mut case: impl FnMut(u64, &mut Random) -> Result<(), String>,
+) -> u64 {
     let runs = number("LANOVISHEL_RUNS").unwrap_or(usual);
     let first = number("LANOVISHEL_SEED").unwrap_or(1);
     for seed in first..first + runs {
-        if let Err(difference) = case(&mut Random::new(seed)) {
+        if let Err(difference) = case(seed, &mut Random::new(seed)) {
             panic!("LANOVISHEL_RUNS=1 LANOVISHEL_SEED={seed}: {difference}");
         }
     }

@@ -128,8 +128,16 @@ impl Surface {
 
     /// Numbers the points in any order, up to `unused` unused ones among them.
     pub fn renumber(&mut self, random: &mut Random, unused: usize) {
+        let unused: Vec<[f64; 3]> = (0..random.within(0, unused))
+            .map(|_| [random.signed(); 3])
+            .collect();
+        self.renumber_with(random, &unused);
+    }
+
+    /// Numbers the points in any order, the `unused` ones among them.
+    pub fn renumber_with(&mut self, random: &mut Random, unused: &[[f64; 3]]) {
         let mut points = self.points();
-        points.extend((0..random.within(0, unused)).map(|_| [random.signed(); 3]));
+        points.extend(unused);
         let mut order: Vec<usize> = (0..points.len()).collect();
         random.shuffle(&mut order);
         let mut number = vec![0; points.len()];

@@ -1,6 +1,8 @@
 //! Checking beside the model and the original: verdicts, both numbers' bits, every list.
 use differential::{
-    cases, checking, note_absence, report,
+    cases,
+    checking::{self, check},
+    note_absence, report,
     surfaces::{Surface, tetrahedron, touching},
 };
 use lanovishel::{Measured, Refusal};
@@ -19,16 +21,6 @@ fn random_calls() {
     println!("{runs} calls of checking");
     let all = [0, 1, 2, 3, 4, 5, 6, 8, 31, 32, 33];
     report("number", &all, &numbers, runs / 500);
-}
-
-fn check(surface: &Surface) -> Result<Measured, Refusal> {
-    let mut work = vec![1; surface.work_words()];
-    lanovishel::check(
-        &surface.points,
-        &surface.corners,
-        &surface.labels,
-        &mut work,
-    )
 }
 
 #[test]

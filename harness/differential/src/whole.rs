@@ -1,0 +1,215 @@
+//! Random surfaces on whole units, of 4 to 32,768 triangles, and other listings of them.
+use crate::{
+    questions,
+    random::Random,
+    surfaces::{Surface, bipyramid, sphere, tetrahedron, torus, walled_box},
+    volume::{MOST, Point, in_line, six, units},
+};
+use std::cmp::Reverse;
+
+/// The lowest and the highest value on an axis.
+type Span = [i64; 2];
+
+/// The whole range.
+const RANGE: Span = [-MOST, MOST];
+
+/// How often a surface is drawn at most, before a plain one is taken.
+const DRAWS: u64 = 100;
+
+/// A closed surface without a degenerate triangle, with a positive volume, and how often it was
+/// drawn again.
+pub fn any(random: &mut Random) -> (Surface, u64) {
+    let triangles = size(random);
+    for again in 0..DRAWS {
+        let mut surface = drawn(random, triangles);
+        if turned_out(&mut surface) {
+            return (surface, again);
+        }
+    }
+    let mut surface = plain(triangles);
+    surface.points = lent(&fitted(&surface, [RANGE; 3])).concat();
+    (surface, DRAWS)
+}
+
+/// How many triangles: an even number, each doubling as often as any other, at times an end.
+fn size(random: &mut Random) -> usize {
+    if random.one_in(20) {
+        return random.pick(&[4, questions::MOST]);
+    }
+    let pairs = 2 << random.below(13);
+    2 * random.within(pairs, 2 * pairs)
+}
+
+/// Turns the surface round where its volume is negative; false where it is 0 or a triangle is
+/// degenerate.
+fn turned_out(surface: &mut Surface) -> bool {
+    let points = units(&surface.points).unwrap();
+    let triangles = surface.triangles();
+    let six = six(&points, &triangles, points[0]);
+    if six < 0 {
+        surface.reverse();
+    }
+    let degenerate = |t: &[u32; 3]| in_line(t.map(|corner| points[corner as usize]));
+    six != 0 && !triangles.iter().any(degenerate)
+}
+
+/// The same surface: triangles and points listed in any order, with up to four more unused points,
+/// often one of them first; at times the triangles by their shares.
+pub fn listed_anew(surface: &Surface, random: &mut Random) -> Surface {
+    let mut listed = surface.clone();
+    listed.relist(random);
+    let room = questions::MOST - listed.point_count();
+    let unused = random.within(0, room.min(3));
+    let unused = scattered(random, unused, [RANGE; 3]);
+    listed.renumber_with(random, &lent(&unused));
+    if random.one_in(2) {
+        let first = [0; 3].map(|_| {
+            let any = between(random, RANGE);
+            random.pick(&[-MOST, MOST, any])
+        });
+        put_first(&mut listed, first);
+    }
+    if random.one_in(4) {
+        list_by_falling_share(&mut listed);
+    }
+    listed
+}
+
+/// Lists the triangles by their shares of the volume, so that no order has larger partial sums. Labels
+/// stay where they are.
+fn list_by_falling_share(surface: &mut Surface) {
+    let points = units(&surface.points).unwrap();
+    let mut triangles = surface.triangles();
+    triangles.sort_by_cached_key(|&triangle| Reverse(six(&points, &[triangle], points[0])));
+    surface.corners = triangles.concat();
+}
+
+/// Lists an unused point first, where there is room for one.
+fn put_first(surface: &mut Surface, point: Point) {
+    if surface.point_count() < questions::MOST {
+        let mut listed = Surface::new(&lent(&[point]), &[]);
+        listed.join(surface);
+        *surface = listed;
+    }
+}
+
+/// A surface whose points are anywhere in the range or near its ends, or in a part of the range,
+/// there anywhere or as the shape has them; often with an unused first point far from the others.
+fn drawn(random: &mut Random, triangles: usize) -> Surface {
+    let mut surface = pieces(random, triangles);
+    let count = surface.point_count();
+    let part = some_part(random);
+    let points = match random.below(4) {
+        0 => scattered(random, count, [RANGE; 3]),
+        1 => near_ends(random, count),
+        2 => scattered(random, count, part),
+        _ => fitted(&surface, part),
+    };
+    surface.points = lent(&points).concat();
+    if random.one_in(2) {
+        let far = points[0].map(|x| if x > 0 { -MOST } else { MOST });
+        put_first(&mut surface, far);
+    }
+    surface
+}
+
+/// Any part of the range, often a small one.
+fn some_part(random: &mut Random) -> [Span; 3] {
+    let longest = random.pick(&[8, 64, 1_024, 2 * MOST, 2 * MOST]);
+    [0; 3].map(|_| {
+        let side = between(random, [1, longest]);
+        let low = between(random, [-MOST, MOST - side]);
+        [low, low + side]
+    })
+}
+
+fn between(random: &mut Random, [low, high]: Span) -> i64 {
+    low + random.below((high - low + 1) as usize) as i64
+}
+
+fn anywhere(random: &mut Random, part: [Span; 3]) -> Point {
+    part.map(|span| between(random, span))
+}
+
+/// Points anywhere in a part of the range.
+fn scattered(random: &mut Random, count: usize, part: [Span; 3]) -> Vec<Point> {
+    (0..count).map(|_| anywhere(random, part)).collect()
+}
+
+/// Points near the corners of the range, or some of them near its sides and walls.
+fn near_ends(random: &mut Random, count: usize) -> Vec<Point> {
+    let farthest = random.pick(&[0, 4, 30, 300]);
+    let corners = random.one_in(2);
+    let mut coordinate = || {
+        if !corners && random.one_in(4) {
+            return between(random, RANGE);
+        }
+        random.pick(&[-1, 1]) * between(random, [MOST - farthest, MOST])
+    };
+    (0..count).map(|_| [0; 3].map(|_| coordinate())).collect()
+}
+
+/// The points of a shape from -1 to 1, stretched to a part of the range and rounded.
+fn fitted(shape: &Surface, part: [Span; 3]) -> Vec<Point> {
+    let fit = |x: f64, [low, high]: Span| {
+        let half = (high - low) as f64 / 2.0;
+        low + ((x + 1.0) * half).round() as i64
+    };
+    let points = shape.points().into_iter();
+    points
+        .map(|p| std::array::from_fn(|axis| fit(p[axis], part[axis])))
+        .collect()
+}
+
+/// Points in units as they are lent.
+pub fn lent(points: &[Point]) -> Vec<[f64; 3]> {
+    points
+        .iter()
+        .map(|point| point.map(|x| x as f64 / 1024.0))
+        .collect()
+}
+
+/// One piece or several with so many triangles in all, from -1 to 1.
+fn pieces(random: &mut Random, triangles: usize) -> Surface {
+    let largest = random.pick(&[4, 40, 400, triangles, triangles, triangles]);
+    let mut surface = Surface::default();
+    while surface.triangle_count() < triangles {
+        let left = triangles - surface.triangle_count();
+        let mut piece = piece(random, left.min(largest));
+        if left - piece.triangle_count() == 2 {
+            // No piece has 2 triangles.
+            piece = plain(left);
+        }
+        if piece.triangle_count() < triangles {
+            let size = random.pick(&[0.1, 0.5, 1.0]);
+            piece.scale([size; 3]);
+            piece.shift([0; 3].map(|_| (1.0 - size) * random.signed()));
+        }
+        surface.join(&piece);
+    }
+    surface
+}
+
+/// A piece with at most so many triangles, which are at least 4, from -1 to 1.
+fn piece(random: &mut Random, most: usize) -> Surface {
+    match random.below(6) {
+        0 => tetrahedron(),
+        1 if most >= 8 => sphere((most / 8).ilog2() as usize / 2),
+        2 | 3 if most >= 18 => {
+            let across = random.within(3, (most / 2).isqrt());
+            let mut torus = torus(most / 2 / across, across);
+            torus.scale([1.0 / 3.0; 3]);
+            torus
+        }
+        4 if most >= 12 => walled_box((most / 12).isqrt()),
+        _ => plain(most),
+    }
+}
+
+/// A piece with just so many triangles, an even number from 4 on.
+fn plain(triangles: usize) -> Surface {
+    match triangles {
+        4 => tetrahedron(),
+        _ => bipyramid(triangles / 2),
+    }
+}
