@@ -20,7 +20,9 @@
 double lanovishel_sqrt(double x);
 
 /* Checks a surface: points has three values a point, corners three corner numbers a triangle, labels one a
- * triangle. Where it is accepted, numbers has its smallest quality and its volume; else numbers is 0. */
+ * triangle. Where it is accepted, numbers has its smallest quality and its volume; else numbers is 0. Of m
+ * triangles with all coordinates in whole 1/1024 within 32 either way, the volume is within m * m / 2^33 of the
+ * exact one. */
 uint32_t lanovishel_check(const double *points, size_t point_values,
                           const uint32_t *corners, size_t corner_numbers,
                           const uint8_t *labels, size_t label_count,

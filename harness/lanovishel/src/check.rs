@@ -6,7 +6,8 @@ use crate::{Refusal, raw};
 pub struct Measured {
     /// The smallest quality of a triangle, in 0 to 1; 0 where there is no triangle.
     pub quality: f64,
-    /// The volume enclosed.
+    /// The volume enclosed: of m triangles with all coordinates in whole 1/1024 within ±32, within
+    /// m·m/2^33 of the exact one, however the surface is listed.
     pub volume: f64,
 }
 
