@@ -14,7 +14,8 @@ over-first p a c e d h = mul-right-comm p d c ∙ ap (λ (n : ℕ). n * d) h ∙
 pub over-second : (q b c d e : ℕ) → q * c ≡ b * d → q * e * c ≡ b * (e * d)
 over-second q b c d e h = mul-right-comm q e c ∙ ap (λ (n : ℕ). n * e) h ∙ mul-right-comm b d e ∙ mul-assoc b e d
 
-rescale : (x : Float) (s : Bool) (w l num den : ℕ) → 0 < l → num * l ≡ w * den → HasValue x s w l → HasValue x s num den
+-- from one fraction to another of the same size
+pub rescale : (x : Float) (s : Bool) (w l num den : ℕ) → 0 < l → num * l ≡ w * den → HasValue x s w l → HasValue x s num den
 rescale nan s w l num den p h v = v
 rescale (inf t) s w l num den p h v = v
 rescale (fin t m e) s w l num den p h v = (

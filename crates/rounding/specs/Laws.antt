@@ -18,7 +18,7 @@ pub record RoundingLaws (f : Format) : Type 0 where
   pub add-exact : {x y : Float} {a b : ℤ} (k : ℕ) → Is x a (2 ^ k) → Is y b (2 ^ k) → natAbs (a +ℤ b) < 2 ^ prec f → k ≤ low f → Is (add f x y) (a +ℤ b) (2 ^ k)
   pub sub-exact : {x y : Float} {a b : ℤ} (k : ℕ) → Is x a (2 ^ k) → Is y b (2 ^ k) → natAbs (a -ℤ b) < 2 ^ prec f → k ≤ low f → Is (sub f x y) (a -ℤ b) (2 ^ k)
   pub mul-exact : {x y : Float} {a b : ℤ} (j k : ℕ) → Is x a (2 ^ j) → Is y b (2 ^ k) → natAbs (a *ℤ b) < 2 ^ prec f → j + k ≤ low f → Is (mul f x y) (a *ℤ b) (2 ^ (j + k))
-  -- in the range of normal values one rounding is off by at most one part in 2 ^ prec
-  pub near : {x : Float} {z : ℤ} {c : ℕ} → Rounds f x z c → 0 < c → 2 ^ (prec f - 1) * c ≤ natAbs z * 2 ^ low f → natAbs z * 2 ^ low f < 2 ^ (low f + emax f) * c → Near f x z c
+  -- at 0 and in the range of normal values one rounding is off by at most one part in 2 ^ prec
+  pub near : {x : Float} {z : ℤ} {c : ℕ} → Rounds f x z c → 0 < c → (0 < natAbs z → 2 ^ (prec f - 1) * c ≤ natAbs z * 2 ^ low f) → natAbs z * 2 ^ low f < 2 ^ (low f + emax f) * c → Near f x z c
   -- and a sum is so at any size below the largest, since one below the normal values is exact
   pub add-near : {x y : Float} {a b : ℤ} → Is x a (2 ^ low f) → Is y b (2 ^ low f) → natAbs (a +ℤ b) < 2 ^ (low f + emax f) → Near f (add f x y) (a +ℤ b) (2 ^ low f)

@@ -18,7 +18,7 @@ use Rattle.float.proofs.Nearest.{Quanta, in-quanta, quanta-exact}
 use Rattle.integers.proofs.Size.{size-sum, size-minus, size-product}
 use Rattle.integers.proofs.Polynomial.{at, plus, minus, times, identity, vanishes}
 use Rattle.rounding.specs.Fraction.{signed, Is, signedQuanta, Near}
-use Rattle.rounding.proofs.Quantum.{rounds}
+use Rattle.rounding.proofs.Quantum.{rescale, rounds}
 use Rattle.rounding.proofs.Rounded.{mul-at, unlike-false}
 use Rattle.rounding.proofs.Exactness.{exact, add-exact, sub-exact, size-signed}
 use Rattle.rounding.proofs.Near.{add-near, quanta-error, signed-times}
@@ -160,11 +160,6 @@ regroup : (n c l y : ℤ) → (n -ℤ c) *ℤ l ≡ n *ℤ l -ℤ (y +ℤ c *ℤ
 unfolding vanishes
 regroup n c l y = identity (times (minus (at 0) (at 1)) (at 2)) (plus (minus (times (at 0) (at 2)) (plus (at 3) (times (at 1) (at 2)))) (at 3)) (n ∷ c ∷ l ∷ y ∷ []) refl
 
-rescaled : (x : Float) (s : Bool) (n l : ℕ) → HasValue x s n 1 → HasValue x s (n * l) l
-rescaled nan s n l v = v
-rescaled (inf t) s n l v = v
-rescaled (fin t m e) s n l v = (v .0, ap (λ (k : ℕ). k * l) (sym (mul-one (m * up e)) ∙ v .1) ∙ mul-right-comm n (down e) l)
-
 -- the sum is whole and the difference exact
 module _ (l : ℕ) (L : 0 < l) (y : Float) (Y : ℤ) (v : Is y Y l) (small : natAbs Y ≤ 32768 * l) (n : ℤ) (value : Is (add binary64 y shift) n l)
     (error : natAbs (n -ℤ (Y +ℤ pos (6755399441055744 * l))) * 2 ^ 53 ≤ natAbs (Y +ℤ pos (6755399441055744 * l))) where
@@ -214,7 +209,7 @@ module _ (l : ℕ) (L : 0 < l) (y : Float) (Y : ℤ) (v : Is y Y l) (small : nat
   whole-of : eq (sub binary64 sum shift) y ≡ true → natAbs difference * l ≡ v .size
   whole-of e =
       let d = difference-is in
-      let same = level-same (d .sign) (v .sign) (d .size * l) (v .size) (sym (eq-values (sub binary64 sum shift) y (d .sign) (v .sign) (d .size * l) (v .size) l L (rescaled (sub binary64 sum shift) (d .sign) (d .size) l (d .value)) (v .value)) ∙ e) in
+      let same = level-same (d .sign) (v .sign) (d .size * l) (v .size) (sym (eq-values (sub binary64 sum shift) y (d .sign) (v .sign) (d .size * l) (v .size) l L (rescale (sub binary64 sum shift) (d .sign) (d .size) 1 (d .size * l) l (lit< tt) (mul-one (d .size * l)) (d .value)) (v .value)) ∙ e) in
       ap (λ (n : ℕ). n * l) (ap natAbs (sym (d .same)) ∙ size-signed (d .sign) (d .size)) ∙ sym (size-signed (d .sign) (d .size * l)) ∙ ap natAbs same ∙ size-signed (v .sign) (v .size)
 
 -- x in units of 2 ^ -1074, and times 1024

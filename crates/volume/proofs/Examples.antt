@@ -24,7 +24,7 @@ use Rattle.checking.specs.declared.Verdict.{Verdict}
 use Rattle.checking.specs.declared.Verdict.the-variants.{Accepted, Refused}
 use Rattle.units.specs.Units.{OnUnits, AllOnUnits, unitsAt}
 use Rattle.volume.specs.Six.{six}
-use Rattle.volume.specs.Error.{Alike}
+use Rattle.volume.specs.Error.{NearEachOther}
 use Rattle.volume.specs.Volume.{Reports, ListedAnew, sixOf}
 use Rattle.volume.proofs.Reported.{is-sound}
 use Rattle.volume.proofs.Volume.{report-laws}
@@ -124,7 +124,7 @@ cube-corner-anew = record {
   listed = record { order = renumbered swapped (triangles corners); same = Permᴰ·refl _; turns = more second (more first (more first (more first none))) };
 }
 
-pub cube-corner-alike : Alike 4 (volumeOf (verdict points corners)) (volumeOf (verdict points′ corners′))
+pub cube-corner-alike : NearEachOther 4 (volumeOf (verdict points corners)) (volumeOf (verdict points′ corners′))
 unfolding triangles
 cube-corner-alike = report-laws .relisted-near cube-corner cube-corner′ cube-corner-anew
 

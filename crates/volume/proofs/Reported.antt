@@ -28,7 +28,7 @@ use Rattle.checking.proofs.Sound.{never}
 use Rattle.checking.proofs.Laws.{Sound, accepted-lent, accepted-measured, sound}
 use Rattle.units.specs.Units.{WholePoint, AllOnUnits, unitsAt}
 use Rattle.volume.specs.Six.{sixAt, six}
-use Rattle.volume.specs.Error as Error
+use Rattle.volume.specs.Error.{NearExact}
 use Rattle.volume.specs.Volume.{Reports, many, sixOf}
 use Rattle.volume.proofs.Wedge.{placed-holds, determinant-holds}
 use Rattle.volume.proofs.Turn.{Summed, share-added}
@@ -107,7 +107,7 @@ near-of u g {v} {m} {s} S =
     subst (λ (n : ℕ). n * (8 * g) ≤ 6 * g * (u * g) * (m * m)) (sym (ap natAbs (scaled (S .number) s (pos g) (pos u)) ∙ size-product (pos 6 *ℤ S .number -ℤ s *ℤ pos u) (pos g)))
     (multiplied (natAbs (pos 6 *ℤ S .number -ℤ s *ℤ pos u)) u m g (S .error))
 
-pub reported-within : {points : List Float} {corners : List ℕ} {volume : Float} → Reports points corners volume → Error.Within (many corners) volume (sixOf points corners (unitsAt points 0))
+pub reported-within : {points : List Float} {corners : List ℕ} {volume : Float} → Reports points corners volume → NearExact (many corners) volume (sixOf points corners (unitsAt points 0))
 reported-within {points} {corners} {volume} r =
     let S = is-summed r in
     let e : S .number ≡ signedQuanta binary64 volume = sym (is-wholes (S .is)) in

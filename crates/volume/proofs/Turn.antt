@@ -1,23 +1,20 @@
 -- One turn of the volume's sum: a share of the volume is a determinant divided by six, rounded; it is added, rounded. In units of 2 ^ -1074, of which 2 ^ 1044 are a unit of the determinant, 2 ^ -30. Assumes nothing.
-use mathlib.Core.Path.{_≡_, refl, sym, ap, _∙_, subst, subst₂}
-use mathlib.Core.Bool.{Bool, true, false}
+use mathlib.Core.Path.{_≡_, refl, sym, ap, _∙_, subst₂}
+use mathlib.Core.Bool.{false}
 use mathlib.Core.List.{[], _∷_}
-use Prim.Native.Nat.{ℕ, zero, suc, _+_, _*_, _^_, _≤_, _<_, zero-le}
-use native.Mathlib.Nat.{le-trans, le-of-eq, lt-of-le-of-lt, mul-assoc, mul-comm, mul-left-comm, add-le-add, le-of-lt, mul-le-mul-left, mul-le-mul-right, zero-mul}
+use Prim.Native.Nat.{ℕ, suc, _+_, _*_, _^_, _≤_, _<_, zero-le}
+use native.Mathlib.Nat.{le-trans, le-of-eq, lt-of-le-of-lt, mul-assoc, mul-comm, mul-left-comm, add-le-add, le-of-lt, mul-le-mul-left, mul-le-mul-right}
 use native.Mathlib.Omega.{arith}
 use lib.Dec.{lit≤, lit<}
-use lib.IntN.{ℤ, pos, negsuc, natAbs, _+ℤ_, _-ℤ_, _*ℤ_}
+use lib.IntN.{ℤ, pos, natAbs, _+ℤ_, _-ℤ_, _*ℤ_}
 use lib.Pow.{pow-pos}
-use lib.Ieee.{Float, binary64, round, ofInt}
-use lib.Ieee.Exact.{HasValue}
+use lib.Ieee.{Float, binary64, ofInt}
 use Rattle.float.specs.Point as Point
 use Rattle.quality.specs.Quality.{number, over}
 use Rattle.integers.proofs.Size.{size-sum, size-product}
 use Rattle.integers.proofs.Polynomial.{at, plus, minus, times, identity, vanishes}
-use Rattle.rounding.specs.Fraction.{signed, Is, signedQuanta, Rounds, Near}
-use Rattle.rounding.proofs.Quantum.{rounds}
+use Rattle.rounding.specs.Fraction.{Is, signedQuanta, Rounds, Near}
 use Rattle.rounding.proofs.Rounded.{div-rounds}
-use Rattle.rounding.proofs.Exactness.{size-of}
 use Rattle.rounding.proofs.Near.{near, add-near, quanta-error, scale-out}
 use Rattle.rounding.proofs.Bounded.{Holds}
 use Rattle.volume.proofs.Wedge.{mostSix}
@@ -47,11 +44,6 @@ sixth-near u g G {q} {z} r e = record {
       (r .error));
 }
 
-sixth-zero : (q : Float) (s : Bool) (c : ℕ) → 0 < c → q ≡ round binary64 s 0 c → HasValue q s 0 (2 ^ 1074)
-sixth-zero q s c C e =
-    subst (λ (x : Float). HasValue x s 0 (2 ^ 1074)) (sym e)
-    (rounds binary64 s 0 c 0 C (zero-mul (2 ^ 1074) ∙ sym (zero-mul c)) (record { m = 0; j = 0; short = pow-pos 53; is = refl; inside = pow-pos 2098 }))
-
 six-is : Is (number 6) (pos 6) 1
 unfolding ofInt
 six-is = record { sign = false; size = 6; value = (refl, refl); same = refl }
@@ -62,28 +54,13 @@ sixth-rounds d z h = div-rounds binary64 (pow-pos 30) (lit< tt) (h .is) six-is
 abbrev unit : ℕ
 unit = 2 ^ 1044
 
-nonzero : (d : Float) (z : ℤ) → Holds d z 30 mostSix → 0 < natAbs z → Sixth (over d (number 6)) z unit
-nonzero d z h some =
+share-near : (d : Float) (z : ℤ) → Holds d z 30 mostSix → Sixth (over d (number 6)) z unit
+share-near d z h =
     sixth-near unit (2 ^ 30) (pow-pos 30)
     (near binary64 (sixth-rounds d z h) (lit< tt)
-    (le-trans (lit≤ tt) (mul-le-mul-right (2 ^ 1074) some))
+    (λ some. le-trans (lit≤ tt) (mul-le-mul-right (2 ^ 1074) some))
     (lt-of-le-of-lt (mul-le-mul-right (2 ^ 1074) (h .most)) (lit< tt)))
     refl
-
-share-near : (d : Float) (z : ℤ) → Holds d z 30 mostSix → Sixth (over d (number 6)) z unit
-share-near d (pos zero) h =
-    let r = sixth-rounds d (pos zero) h in
-    record {
-      number = pos 0;
-      is = record { sign = r .sign; size = 0; value = sixth-zero (over d (number 6)) (r .sign) (6 * 2 ^ 30) (lit< tt) (r .value ∙ ap (λ (n : ℕ). round binary64 (r .sign) n (6 * 2 ^ 30)) (size-of r)); same = signed-zero (r .sign) };
-      error = lit≤ tt;
-    }
-  where
-    signed-zero : (s : Bool) → signed s 0 ≡ pos 0
-    signed-zero false = refl
-    signed-zero true = refl
-share-near d (pos (suc n)) h = nonzero d (pos (suc n)) h (omega arith)
-share-near d (negsuc n) h = nonzero d (negsuc n) h (omega arith)
 
 -- ---- the error of the sum
 

@@ -16,7 +16,7 @@ use Rattle.surface.specs.Renumber.{renumber}
 use Rattle.surface.specs.PageTwelve.{EachTurns, none, more}
 use Rattle.surface.proofs.Rings.{length-perm}
 use Rattle.units.specs.Units.{WholePoint, unitsAt}
-use Rattle.volume.specs.Error.{Within, Alike}
+use Rattle.volume.specs.Error.{NearExact, NearEachOther}
 use Rattle.volume.specs.Volume.{Balanced, ListedAnew, Reports, many, sixOf, SixLaws, ReportLaws}
 use Rattle.volume.specs.Exact.{Measurable}
 use Rattle.volume.proofs.Sides.{paired-balanced}
@@ -44,7 +44,7 @@ twice f l p m n n′ s F h h′ =
     both : (A B p c : ℕ) → A * p ≤ c → B * p ≤ c → (A + B) * p ≤ 2 * c
     both A B p c x y = omega arith
 
-alike-of : {m : ℕ} {v v′ : Float} {s : ℤ} → Within m v s → Within m v′ s → Alike m v v′
+alike-of : {m : ℕ} {v v′ : Float} {s : ℤ} → NearExact m v s → NearExact m v′ s → NearEachOther m v v′
 alike-of {m} {v} {v′} {s} w w′ = record {
   finite = w .finite;
   finite′ = w′ .finite;
@@ -70,18 +70,18 @@ one-volume {points} {points′} {corners} r a o o′ =
     ∙ six-renumbered o′ (unitsAt points) (unitsAt points′) (a .number) corners (a .kept)
     ∙ six-listing o′ (unitsAt points′) (a .listed)
 
-reported-near : {points : List Float} {corners : List ℕ} {volume : Float} → Reports points corners volume → (o : WholePoint) → Within (many corners) volume (sixOf points corners o)
+reported-near : {points : List Float} {corners : List ℕ} {volume : Float} → Reports points corners volume → (o : WholePoint) → NearExact (many corners) volume (sixOf points corners o)
 reported-near {points} {corners} {volume} r o =
-    subst (λ (s : ℤ). Within (many corners) volume s) (six-origin (unitsAt points) (triangles corners) (is-balanced r) (unitsAt points 0) o) (reported-within r)
+    subst (λ (s : ℤ). NearExact (many corners) volume s) (six-origin (unitsAt points) (triangles corners) (is-balanced r) (unitsAt points 0) o) (reported-within r)
 
 relisted-near : {points points′ : List Float} {corners corners′ : List ℕ} {volume volume′ : Float} → Reports points corners volume → Reports points′ corners′ volume′
-    → ListedAnew points corners points′ corners′ → Alike (many corners) volume volume′
+    → ListedAnew points corners points′ corners′ → NearEachOther (many corners) volume volume′
 relisted-near {points} {points′} {corners} {corners′} {volume} {volume′} r r′ a =
     let o = unitsAt points 0 in
-    alike-of (reported-near r o) (subst₂ (λ (n : ℕ) (s : ℤ). Within n volume′ s) (many-anew a) (sym (one-volume r a o o)) (reported-near r′ o))
+    alike-of (reported-near r o) (subst₂ (λ (n : ℕ) (s : ℤ). NearExact n volume′ s) (many-anew a) (sym (one-volume r a o o)) (reported-near r′ o))
 
 pub six-laws : SixLaws
-six-laws = record { any-listing = λ place ts us l o. six-listing o place l; any-origin = six-origin }
+six-laws = record { any-listing = λ point ts us l o. six-listing o point l; any-origin = six-origin }
 
 -- of whatever says as much as `Reports`
 pub report-laws-of : (Reported : List Float → List ℕ → Float → Type 0) → ((points : List Float) (corners : List ℕ) (volume : Float) → Reported points corners volume → Reports points corners volume) → ReportLaws Reported

@@ -11,12 +11,12 @@ Finite x = Is x (signedQuanta binary64 x) (2 ^ 1074)
 
 -- The reported volume is finite, and within m * m / 2 ^ 33 of the volume whose sixfold is s of 2 ^ -30: with n quanta reported,
 -- | n / 2 ^ 1074 - s / (6 * 2 ^ 30) | ≤ m * m / 2 ^ 33, times 6 * 2 ^ 30 * 2 ^ 1074 * 2 ^ 33.
-pub record Within (m : ℕ) (reported : Float) (s : ℤ) : Type 0 where
+pub record NearExact (m : ℕ) (reported : Float) (s : ℤ) : Type 0 where
   pub finite : Finite reported
   pub near : natAbs (pos (6 * 2 ^ 30) *ℤ signedQuanta binary64 reported -ℤ pos (2 ^ 1074) *ℤ s) * 2 ^ 33 ≤ 6 * 2 ^ 30 * 2 ^ 1074 * (m * m)
 
 -- Two reported volumes are finite and differ by at most 2 * m * m / 2 ^ 33.
-pub record Alike (m : ℕ) (one other : Float) : Type 0 where
+pub record NearEachOther (m : ℕ) (one other : Float) : Type 0 where
   pub finite : Finite one
   pub finite′ : Finite other
   pub near : natAbs (signedQuanta binary64 one -ℤ signedQuanta binary64 other) * 2 ^ 33 ≤ 2 * 2 ^ 1074 * (m * m)

@@ -23,11 +23,11 @@ dot p q = p .x *ℤ q .x +ℤ p .y *ℤ q .y +ℤ p .z *ℤ q .z
 abbrev pub determinant : WholePoint → WholePoint → WholePoint → ℤ
 determinant a b c = dot a (cross b c)
 
--- six times the volume between a triangle and the point o, where corner number i lies at the point `place i`
+-- six times the volume between a triangle and the point o, where corner number i is the point `point i`
 abbrev pub sixAt : WholePoint → (ℕ → WholePoint) → Tri → ℤ
-sixAt o place t = determinant (from o (place (t .a))) (from o (place (t .b))) (from o (place (t .c)))
+sixAt o point t = determinant (from o (point (t .a))) (from o (point (t .b))) (from o (point (t .c)))
 
 -- six times the volume of a list of triangles, measured from o
 unfoldable pub six : WholePoint → (ℕ → WholePoint) → List Tri → ℤ
-six o place [] = pos 0
-six o place (t ∷ ts) = sixAt o place t +ℤ six o place ts
+six o point [] = pos 0
+six o point (t ∷ ts) = sixAt o point t +ℤ six o point ts

@@ -13,7 +13,7 @@ use Rattle.checking.specs.Validate.{validated}
 use Rattle.checking.specs.declared.Verdict.the-variants.{Accepted}
 use Rattle.units.specs.Units.{WholePoint, AllOnUnits, unitsAt}
 use Rattle.volume.specs.Six.{six}
-use Rattle.volume.specs.Error.{Within, Alike}
+use Rattle.volume.specs.Error.{NearExact, NearEachOther}
 
 -- each directed side's reverse occurs as often as the side
 abbrev pub Balanced : List Tri → Type 0
@@ -38,9 +38,9 @@ sixOf points corners o = six o (unitsAt points) (triangles corners)
 
 pub record SixLaws : Type 0 where
   -- "triangle order [doesn't] matter to the volume either": of any triangles over any whole points, in any order, with any turn's beginning
-  pub any-listing : (place : ℕ → WholePoint) (ts us : List Tri) → Relisted ts us → (o : WholePoint) → six o place ts ≡ six o place us
+  pub any-listing : (point : ℕ → WholePoint) (ts us : List Tri) → Relisted ts us → (o : WholePoint) → six o point ts ≡ six o point us
   -- "the choice of first point [doesn't] matter to the volume either": any point may be the origin
-  pub any-origin : (place : ℕ → WholePoint) (ts : List Tri) → Balanced ts → (o o′ : WholePoint) → six o place ts ≡ six o′ place ts
+  pub any-origin : (point : ℕ → WholePoint) (ts : List Tri) → Balanced ts → (o o′ : WholePoint) → six o point ts ≡ six o′ point ts
 
 -- ---- the reported volume
 
@@ -59,7 +59,7 @@ pub record ReportLaws (Reported : List Float → List ℕ → Float → Type 0) 
   pub one-volume : {points points′ : List Float} {corners corners′ : List ℕ} {volume : Float} → Reported points corners volume → ListedAnew points corners points′ corners′
       → (o o′ : WholePoint) → sixOf points corners o ≡ sixOf points′ corners′ o′
   -- "triangle order and the choice of first point don't matter to the volume either": of that one volume the reported one is within m * m / 2 ^ 33
-  pub reported-near : {points : List Float} {corners : List ℕ} {volume : Float} → Reported points corners volume → (o : WholePoint) → Within (many corners) volume (sixOf points corners o)
+  pub reported-near : {points : List Float} {corners : List ℕ} {volume : Float} → Reported points corners volume → (o : WholePoint) → NearExact (many corners) volume (sixOf points corners o)
   -- "triangle order and the choice of first point don't matter to the volume either": two listings, both accepted, report volumes that differ by at most twice that
   pub relisted-near : {points points′ : List Float} {corners corners′ : List ℕ} {volume volume′ : Float} → Reported points corners volume → Reported points′ corners′ volume′
-      → ListedAnew points corners points′ corners′ → Alike (many corners) volume volume′
+      → ListedAnew points corners points′ corners′ → NearEachOther (many corners) volume volume′
