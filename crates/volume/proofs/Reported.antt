@@ -107,8 +107,8 @@ near-of u g {v} {m} {s} S =
     subst (λ (n : ℕ). n * (8 * g) ≤ 6 * g * (u * g) * (m * m)) (sym (ap natAbs (scaled (S .number) s (pos g) (pos u)) ∙ size-product (pos 6 *ℤ S .number -ℤ s *ℤ pos u) (pos g)))
     (multiplied (natAbs (pos 6 *ℤ S .number -ℤ s *ℤ pos u)) u m g (S .error))
 
-pub reported-within : {points : List Float} {corners : List ℕ} {volume : Float} → Reports points corners volume → NearExact (many corners) volume (sixOf points corners (unitsAt points 0))
-reported-within {points} {corners} {volume} r =
+pub reported-from-first : {points : List Float} {corners : List ℕ} {volume : Float} → Reports points corners volume → NearExact (many corners) volume (sixOf points corners (unitsAt points 0))
+reported-from-first {points} {corners} {volume} r =
     let S = is-summed r in
     let e : S .number ≡ signedQuanta binary64 volume = sym (is-wholes (S .is)) in
     record {

@@ -22,7 +22,7 @@ use Rattle.volume.specs.Exact.{Measurable}
 use Rattle.volume.proofs.Sides.{paired-balanced}
 use Rattle.volume.proofs.Origin.{six-origin}
 use Rattle.volume.proofs.Listing.{six-listing, six-renumbered}
-use Rattle.volume.proofs.Reported.{counted, is-sound, reported-within}
+use Rattle.volume.proofs.Reported.{counted, is-sound, reported-from-first}
 
 -- ---- two that are near to one volume are near to one another
 
@@ -44,8 +44,8 @@ twice f l p m n n′ s F h h′ =
     both : (A B p c : ℕ) → A * p ≤ c → B * p ≤ c → (A + B) * p ≤ 2 * c
     both A B p c x y = omega arith
 
-alike-of : {m : ℕ} {v v′ : Float} {s : ℤ} → NearExact m v s → NearExact m v′ s → NearEachOther m v v′
-alike-of {m} {v} {v′} {s} w w′ = record {
+near-each-other : {m : ℕ} {v v′ : Float} {s : ℤ} → NearExact m v s → NearExact m v′ s → NearEachOther m v v′
+near-each-other {m} {v} {v′} {s} w w′ = record {
   finite = w .finite;
   finite′ = w′ .finite;
   near = twice (6 * 2 ^ 30) (2 ^ 1074) (2 ^ 33) m (signedQuanta binary64 v) (signedQuanta binary64 v′) s (lit< tt) (w .near) (w′ .near);
@@ -72,13 +72,13 @@ one-volume {points} {points′} {corners} r a o o′ =
 
 reported-near : {points : List Float} {corners : List ℕ} {volume : Float} → Reports points corners volume → (o : WholePoint) → NearExact (many corners) volume (sixOf points corners o)
 reported-near {points} {corners} {volume} r o =
-    subst (λ (s : ℤ). NearExact (many corners) volume s) (six-origin (unitsAt points) (triangles corners) (is-balanced r) (unitsAt points 0) o) (reported-within r)
+    subst (λ (s : ℤ). NearExact (many corners) volume s) (six-origin (unitsAt points) (triangles corners) (is-balanced r) (unitsAt points 0) o) (reported-from-first r)
 
 relisted-near : {points points′ : List Float} {corners corners′ : List ℕ} {volume volume′ : Float} → Reports points corners volume → Reports points′ corners′ volume′
     → ListedAnew points corners points′ corners′ → NearEachOther (many corners) volume volume′
 relisted-near {points} {points′} {corners} {corners′} {volume} {volume′} r r′ a =
     let o = unitsAt points 0 in
-    alike-of (reported-near r o) (subst₂ (λ (n : ℕ) (s : ℤ). NearExact n volume′ s) (many-anew a) (sym (one-volume r a o o)) (reported-near r′ o))
+    near-each-other (reported-near r o) (subst₂ (λ (n : ℕ) (s : ℤ). NearExact n volume′ s) (many-anew a) (sym (one-volume r a o o)) (reported-near r′ o))
 
 pub six-laws : SixLaws
 six-laws = record { any-listing = λ point ts us l o. six-listing o point l; any-origin = six-origin }
