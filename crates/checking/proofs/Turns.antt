@@ -92,7 +92,8 @@ start ps cs = sym (ap₂ (λ (m v : Float). foldl (next ps) (Accepted m v) (tria
 one-more : (cs : List ℕ) (j k : ℕ) → j < length cs → suc j ≡ k → drop j cs ≡ getD cs j 0 ∷ drop k cs
 one-more cs j k h e = drop-cons cs j 0 h ∙ ap (λ (n : ℕ). getD cs j 0 ∷ drop n cs) e
 
-triangles-more : (cs : List ℕ) (i : ℕ) → i + 2 < length cs
+-- the triangles from a place of the list on
+pub triangles-more : (cs : List ℕ) (i : ℕ) → i + 2 < length cs
     → triangles (drop i cs) ≡ tri (getD cs i 0) (getD cs (i + 1) 0) (getD cs (i + 2) 0) ∷ triangles (drop (i + 3) cs)
 unfolding triangles
 triangles-more cs i h =

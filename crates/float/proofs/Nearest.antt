@@ -112,7 +112,7 @@ near-minus n r y p h = lt-of-le-of-lt (sq-le (sub-le r y)) (subst (λ (x : ℕ).
 
 -- ---- a value that fits, in quanta
 
-parts : (f : Format) (s : Bool) (m : ℕ) (e : ℤ) → T (fits f (fin s (suc m) e)) → (suc m < 2 ^ prec f) × (down e ≤ 2 ^ low f) × (suc m * up e < 2 ^ suc (emax f) * down e)
+pub parts : (f : Format) (s : Bool) (m : ℕ) (e : ℤ) → T (fits f (fin s (suc m) e)) → (suc m < 2 ^ prec f) × (down e ≤ 2 ^ low f) × (suc m * up e < 2 ^ suc (emax f) * down e)
 unfolding fits
 parts f s m e h =
     let A = eqb (suc m % 2) 1 in

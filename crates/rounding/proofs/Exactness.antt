@@ -1,18 +1,19 @@
 -- Where the operations change nothing: a whole number of 2 ^ -k that has at most `prec` digits is rounded to itself. Assumes nothing.
 use mathlib.Core.Path.{_≡_, refl, sym, ap, _∙_, subst}
 use mathlib.Core.Bool.{Bool, true, false}
-use Prim.Native.Nat.{ℕ, suc, _+_, _-_, _*_, _^_, _≤_, _<_}
-use native.Mathlib.Nat.{mul-assoc, lt-of-lt-of-le}
+use Prim.Native.Nat.{ℕ, suc, _+_, _-_, _*_, _^_, _≤_, _<_, zero-le}
+use native.Mathlib.Nat.{mul-assoc, mul-one, mul-pos, lt-of-lt-of-le}
 use native.Mathlib.Omega.{arith}
-use lib.Dec.{lit≤}
+use lib.Dec.{lit≤, lit<}
 use lib.IntN.{ℤ, pos, natAbs, _+ℤ_, _-ℤ_, _*ℤ_}
 use lib.Pow.{pow-add, pow-pos, pow-mono, shl-lt}
 use lib.Ieee.{Float, Format, binary32, binary64, prec, emax, low, round, add, sub, mul}
 use lib.Ieee.Digits.{back}
 use lib.Ieee.Exact.{HasValue, round-exact}
+use lib.Ieee.Scale.{round-same}
 use Rattle.integers.proofs.Size.{size-neg}
 use Rattle.rounding.specs.Fraction.{signed, Is, Rounds}
-use Rattle.rounding.proofs.Rounded.{add-rounds, sub-rounds, mul-rounds}
+use Rattle.rounding.proofs.Rounded.{add-rounds, sub-rounds, mul-at, unlike-false, mul-rounds}
 
 pub size-signed : (s : Bool) (n : ℕ) → natAbs (signed s n) ≡ n
 size-signed false n = refl
@@ -42,6 +43,22 @@ exact f {x} {z} k r small deep = record {
   value = subst (λ (y : Float). HasValue y (r .sign) (r .size) (2 ^ k)) (sym (r .value)) (kept f (r .sign) (r .size) k (subst (λ (n : ℕ). n < 2 ^ prec f) (sym (size-of r)) small) deep);
   same = r .same;
 }
+
+-- z of 2 ^ -k, times 2 ^ k, is z
+pub power-exact : (f : Format) {x : Float} {z : ℤ} (k : ℕ) (y : Float) → Is x z (2 ^ k) → HasValue y false (2 ^ k) 1 → natAbs z < 2 ^ prec f → Is (mul f x y) z 1
+power-exact f {x} {z} k y v p small =
+    exact f 0
+    (record {
+      sign = v .sign;
+      size = v .size;
+      value =
+          mul-at f x y (v .sign) false (v .size) (2 ^ k) (2 ^ k) 1 (pow-pos k) (lit< tt) (v .value) p
+          ∙ ap (λ (s : Bool). round f s (v .size * 2 ^ k) (2 ^ k * 1)) (unlike-false (v .sign))
+          ∙ round-same f (v .sign) (v .size * 2 ^ k) (2 ^ k * 1) (v .size) 1 (mul-pos (pow-pos k) (lit< tt)) (lit< tt) (mul-one (v .size * 2 ^ k) ∙ ap (λ (n : ℕ). v .size * n) (sym (mul-one (2 ^ k))));
+      same = v .same;
+    })
+    small
+    zero-le
 
 pub add-exact : (f : Format) {x y : Float} {a b : ℤ} (k : ℕ) → Is x a (2 ^ k) → Is y b (2 ^ k) → natAbs (a +ℤ b) < 2 ^ prec f → k ≤ low f → Is (add f x y) (a +ℤ b) (2 ^ k)
 add-exact f k p q = exact f k (add-rounds f (pow-pos k) p q)

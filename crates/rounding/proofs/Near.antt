@@ -23,20 +23,20 @@ use Rattle.rounding.proofs.Exactness.{size-of, exact}
 
 -- ---- a / b to the nearest whole number is off by at most a half
 
+-- a and b differ by at most u / 2
+abbrev HalfApart : ℕ → ℕ → ℕ → Type 0
+HalfApart a b u = (2 * a ≤ 2 * b + u) × (2 * b ≤ 2 * a + u)
+
 off-by : (q r b : ℕ) (o : Ordering) → (T (isLe o) → r * 2 ≤ b) → (T (not (isLe o)) → b < r * 2) → (T (isEq o) → r * 2 ≡ b) → r < b
-    → (2 * (nearest q o * b) ≤ 2 * (q * b + r) + b) × (2 * (q * b + r) ≤ 2 * (nearest q o * b) + b)
+    → HalfApart (nearest q o * b) (q * b + r) b
 off-by q r b Ordering·lt h k e l = let g = h tt in omega arith
 off-by q r b Ordering·eq h k e l = let g = e tt in go (q % 2) (omega arith)
   where
-    go : (t : ℕ) → t ≤ 1 → (2 * ((q + t) * b) ≤ 2 * (q * b + r) + b) × (2 * (q * b + r) ≤ 2 * ((q + t) * b) + b)
+    go : (t : ℕ) → t ≤ 1 → HalfApart ((q + t) * b) (q * b + r) b
     go zero m = let g = e tt in omega arith
     go (suc zero) m = let g = e tt in omega arith
     go (suc (suc t)) m = absurd (omega arith)
 off-by q r b Ordering·gt h k e l = let g = k tt in omega arith
-
--- a and b differ by at most u / 2
-abbrev HalfApart : ℕ → ℕ → ℕ → Type 0
-HalfApart a b u = (2 * a ≤ 2 * b + u) × (2 * b ≤ 2 * a + u)
 
 closest-near : (a b : ℕ) → 0 < b → HalfApart (closest a b * b) a b
 closest-near a b B =
@@ -147,7 +147,7 @@ pub signed-times : (s : Bool) (a c : ℕ) → signed s (a * c) ≡ signed s a *�
 signed-times false a c = refl
 signed-times true a c = sym (neg-mul (pos a) (pos c))
 
-module _ (f : Format) {x : Float} {z : ℤ} {c : ℕ} (r : Rounds f x z c) (C : 0 < c) where
+module _ (f : Format) {x : Float} {z : ℤ} {c : ℕ} where
   -- x is a whole number of quanta
   counted : (n : ℤ) → Is x n (2 ^ low f) → natAbs (n *ℤ pos c -ℤ z *ℤ pos (2 ^ low f)) * 2 ^ prec f ≤ natAbs z * 2 ^ low f → Near f x z c
   counted n is e =
@@ -157,25 +157,26 @@ module _ (f : Format) {x : Float} {z : ℤ} {c : ℕ} (r : Rounds f x z c) (C : 
         error = subst (λ (y : ℤ). natAbs (y *ℤ pos c -ℤ z *ℤ pos (2 ^ low f)) * 2 ^ prec f ≤ natAbs z * 2 ^ low f) same e;
       }
 
+  -- and that is the fraction
+  no-error : (n : ℤ) → Is x n (2 ^ low f) → n *ℤ pos c ≡ z *ℤ pos (2 ^ low f) → Near f x z c
+  no-error n is e =
+      let l = z *ℤ pos (2 ^ low f) in
+      counted n is (le-trans (le-of-eq (ap (λ (k : ℤ). natAbs k * 2 ^ prec f) (ap (λ (k : ℤ). k -ℤ l) e ∙ +ℤ-invr l) ∙ zero-mul (2 ^ prec f))) zero-le)
+
+module _ (f : Format) {x : Float} {z : ℤ} {c : ℕ} (r : Rounds f x z c) (C : 0 < c) where
   near-zero : r .size ≡ 0 → Near f x z c
   near-zero e =
       let none : z ≡ pos 0 = sym (r .same) ∙ ap (signed (r .sign)) e ∙ signed-zero (r .sign) in
-      let is : Is x (pos 0) (2 ^ low f) = record {
-        sign = r .sign;
-        size = 0;
-        value = subst (λ (y : Float). HasValue y (r .sign) 0 (2 ^ low f)) (sym (r .value ∙ ap (λ (n : ℕ). round f (r .sign) n c) e)) (zero-kept f (r .sign) c C);
-        same = signed-zero (r .sign);
-      } in
-      counted (pos 0) is
-      (subst (λ (y : ℤ). natAbs (pos 0 *ℤ pos c -ℤ y *ℤ pos (2 ^ low f)) * 2 ^ prec f ≤ natAbs y * 2 ^ low f) (sym none)
-      (le-trans (le-of-eq (ap₂ (λ (u v : ℤ). natAbs (u -ℤ v) * 2 ^ prec f) (zero-*ℤ (pos c)) (zero-*ℤ (pos (2 ^ low f))) ∙ zero-mul (2 ^ prec f))) zero-le))
+      let value = subst (λ (y : Float). HasValue y (r .sign) 0 (2 ^ low f)) (sym (r .value ∙ ap (λ (n : ℕ). round f (r .sign) n c) e)) (zero-kept f (r .sign) c C) in
+      no-error f (pos 0) (record { sign = r .sign; size = 0; value = value; same = signed-zero (r .sign) })
+      (zero-*ℤ (pos c) ∙ sym (ap (λ (y : ℤ). y *ℤ pos (2 ^ low f)) none ∙ zero-*ℤ (pos (2 ^ low f))))
 
   near-normal : 2 ^ (prec f - 1) * c ≤ r .size * 2 ^ low f → r .size * 2 ^ low f < 2 ^ (low f + emax f) * c → Near f x z c
   near-normal normal small =
       let s = r .sign in
       let m = r .size in
       let g = grid f m c C normal in
-      counted (signed s g)
+      counted f (signed s g)
       (record { sign = s; size = g; value = subst (λ (y : Float). HasValue y s g (2 ^ low f)) (sym (r .value)) (grid-value f m c C normal s small); same = refl })
       (subst₂ (λ (u : ℤ) (v : ℕ). natAbs u * 2 ^ prec f ≤ v)
       (ap₂ (λ (u v : ℤ). u -ℤ v) (signed-times s g c) (signed-times s m (2 ^ low f) ∙ ap (λ (u : ℤ). u *ℤ pos (2 ^ low f)) (r .same)))
@@ -210,13 +211,7 @@ add-near f {x} {y} {a} {b} p q small = go (leb (2 ^ prec f) (natAbs z)) (leb→l
     go : (t : Bool) → (T t → 2 ^ prec f ≤ natAbs z) → (T (not t) → natAbs z < 2 ^ prec f) → Near f (add f x y) z (2 ^ low f)
     go true h l =
         near f r (pow-pos (low f)) (λ some. mul-le-mul-right (2 ^ low f) (le-trans (pow-mono (half-prec f)) (h tt))) (mul-lt-mul-of-pos-right small (pow-pos (low f)))
-    go false h l =
-        let is = exact f (low f) r (l tt) (le-refl (low f)) in
-        let e = is-wholes is in
-        record {
-          is = subst (λ (u : ℤ). Is (add f x y) u (2 ^ low f)) (sym e) is;
-          error = subst (λ (u : ℤ). natAbs u * 2 ^ prec f ≤ natAbs z * 2 ^ low f) (sym (+ℤ-invr (z *ℤ pos (2 ^ low f))) ∙ ap (λ (u : ℤ). u *ℤ pos (2 ^ low f) -ℤ z *ℤ pos (2 ^ low f)) (sym e)) (le-trans (le-of-eq (zero-mul (2 ^ prec f))) zero-le);
-        }
+    go false h l = no-error f z (exact f (low f) r (l tt) (le-refl (low f))) refl
 
 -- ---- the error in quanta
 

@@ -2,7 +2,7 @@
 use mathlib.Core.Path.{_≡_, refl, sym, ap, ap₂, _∙_, subst, subst₂}
 use mathlib.Core.Bool.{Bool, true, false, not, _&&_, cond, Bool·beq}
 use Prim.Native.Nat.{ℕ, zero, suc, _+_, _-_, _*_, _/_, _^_, _≤_, _<_}
-use native.Mathlib.Nat.{mul-assoc, mul-comm, mul-left-comm, mul-one, mul-pos, add-mul, lt-of-mul-lt-mul-right, mul-lt-mul-of-pos-right, mul-mul-mul-comm, mul-div-cancel, zero-mul, lt-irrefl}
+use native.Mathlib.Nat.{mul-assoc, mul-comm, mul-left-comm, mul-one, mul-pos, add-mul, lt-of-mul-lt-mul-right, mul-lt-mul-of-pos-right, mul-mul-mul-comm, mul-div-cancel, zero-mul, lt-irrefl, le-of-lt}
 use native.Mathlib.Omega.{arith}
 use lib.Dec.{T, eqb, ltb, ltb→lt, nltb→le}
 use lib.IntN.{ℤ, pos, negℤ, natAbs, pos-ne-negsuc, _+ℤ_, _-ℤ_, _*ℤ_, +ℤ-comm, negℤ-+ℤ, negℤ-negℤ, *ℤ-comm, +ℤ-invl}
@@ -27,18 +27,12 @@ sum-rounds f true true a b c = record { sign = true; size = a + b; value = refl;
 sum-rounds f false true a b c = go (ltb a b) (ltb→lt a b) (nltb→le a b)
   where
     go : (k : Bool) → (T k → a < b) → (T (not k) → b ≤ a) → Rounds f (cond k (round f true (b - a) c) (round f false (a - b) c)) (pos a -ℤ pos b) c
-    go true h l = record { sign = true; size = b - a; value = refl; same = negative-of a b (weak (h tt)) }
-      where
-        weak : a < b → a ≤ b
-        weak g = omega arith
+    go true h l = record { sign = true; size = b - a; value = refl; same = negative-of a b (le-of-lt (h tt)) }
     go false h l = record { sign = false; size = a - b; value = refl; same = difference-of a b (l tt) }
 sum-rounds f true false a b c = go (ltb a b) (ltb→lt a b) (nltb→le a b) (ltb b a) (nltb→le b a)
   where
     go : (k : Bool) → (T k → a < b) → (T (not k) → b ≤ a) → (j : Bool) → (T (not j) → a ≤ b) → Rounds f (cond k (round f false (b - a) c) (round f j (a - b) c)) (negℤ (pos a) +ℤ pos b) c
-    go true h l j g = record { sign = false; size = b - a; value = refl; same = difference-of b a (weak (h tt)) ∙ +ℤ-comm (pos b) (negℤ (pos a)) }
-      where
-        weak : a < b → a ≤ b
-        weak g = omega arith
+    go true h l j g = record { sign = false; size = b - a; value = refl; same = difference-of b a (le-of-lt (h tt)) ∙ +ℤ-comm (pos b) (negℤ (pos a)) }
     go false h l true g = record { sign = true; size = a - b; value = refl; same = negative-of b a (l tt) ∙ +ℤ-comm (pos b) (negℤ (pos a)) }
     go false h l false g = record { sign = false; size = a - b; value = refl; same = none (l tt) (g tt) }
       where

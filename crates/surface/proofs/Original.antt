@@ -25,7 +25,7 @@ use Rattle.surface.proofs.Around.{ring-joined, balanced-around, nothing
 use Rattle.surface.proofs.Pairs.{tally, tally-perm, sorted-perm, sorted-rising, distinct-once, once-distinct, reversed-back, back-reversed}
 
 -- the sides: the sorted list holds each as often as the triangles run along it
-directed-sides : (ts : List Tri) (u v : ℕ) → tally (directed ts) u v ≡ sides ts u v
+pub directed-sides : (ts : List Tri) (u v : ℕ) → tally (directed ts) u v ≡ sides ts u v
 unfolding tally directed sides
 directed-sides [] u v = refl
 directed-sides (t ∷ ts) u v = omega (arith, sides-cons t ts u v, directed-sides ts u v)

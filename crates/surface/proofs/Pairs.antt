@@ -33,7 +33,7 @@ le-anti (inl p) (inr q) = absurd (omega arith)
 le-anti (inr p) (inl q) = absurd (omega arith)
 le-anti (inr p) (inr q) = omega arith
 
-step-path : {x y : Step} → Same x y → x ≡ y
+pub step-path : {x y : Step} → Same x y → x ≡ y
 step-path p = λ i. record { from = p .0 i; to = p .1 i }
 
 le-self : (x : Step) → Le x x

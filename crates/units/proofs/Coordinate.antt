@@ -1,26 +1,25 @@
 -- Whether a value is a whole number of 1/1024 within ±32,768, decided by four operations of f64: between -32 and 32, times 1024 and with 3 * 2 ^ 51 added and taken away, it is what it was. Assumes nothing.
 -- Next to 3 * 2 ^ 51 the values of f64 are the whole numbers; so the sum is whole, and the difference is exact.
 use mathlib.Core.Path.{_≡_, refl, sym, ap, _∙_, subst}
-use mathlib.Core.Bool.{Bool, true, false, _&&_, false≢true}
+use mathlib.Core.Bool.{Bool, true, false, false≢true}
 use mathlib.Core.List.{[], _∷_}
-use Prim.Native.Nat.{ℕ, zero, suc, _+_, _*_, _/_, _%_, _^_, _≤_, _<_, zero-le, suc-le-suc}
-use native.Mathlib.Nat.{le-refl, add-le-add, le-trans, le-of-eq, lt-of-le-of-lt, mul-one, mul-assoc, mul-right-comm, mul-le-mul, mul-lt-mul-of-pos-right, mul-le-mul-right, le-of-mul-le-mul-right, eq-of-mul-eq-mul-right, mul-div-cancel}
+use Prim.Native.Nat.{ℕ, zero, suc, _+_, _*_, _^_, _≤_, _<_, zero-le, suc-le-suc}
+use native.Mathlib.Nat.{le-refl, add-le-add, le-trans, le-of-eq, lt-of-le-of-lt, mul-one, mul-assoc, mul-le-mul, mul-lt-mul-of-pos-right, mul-le-mul-right, le-of-mul-le-mul-right}
 use native.Mathlib.Omega.{arith}
-use lib.Dec.{T, leb, ltb, eqb, lit≤, lit<, ltb→lt}
+use lib.Dec.{T, lit≤, lit<}
 use lib.IntN.{ℤ, pos, negsuc, natAbs, _+ℤ_, _-ℤ_, _*ℤ_, +ℤ-negℤ-cancel}
 use lib.Pow.{pow-pos, pow-add, pow-mono}
-use lib.Ieee.{Float, nan, inf, fin, binary64, ofBits, up, down, round, add, sub, mul, neg, le, eq, fits}
+use lib.Ieee.{Float, nan, inf, fin, binary64, ofBits, round, add, sub, mul, neg, le, eq, fits}
 use lib.Ieee.Exact.{HasValue}
-use lib.Ieee.Fits.{and-l, and-r, add-fits, down-pos}
-use lib.Ieee.Scale.{round-same}
+use lib.Ieee.Fits.{add-fits}
 use Rattle.float.specs.Root.{quanta}
-use Rattle.float.proofs.Nearest.{Quanta, in-quanta, quanta-exact}
+use Rattle.float.proofs.Nearest.{Quanta, in-quanta, parts, quanta-exact}
 use Rattle.integers.proofs.Size.{size-sum, size-minus, size-product}
 use Rattle.integers.proofs.Polynomial.{at, plus, minus, times, identity, vanishes}
 use Rattle.rounding.specs.Fraction.{signed, Is, signedQuanta, Near}
 use Rattle.rounding.proofs.Quantum.{rescale, rounds}
-use Rattle.rounding.proofs.Rounded.{mul-at, unlike-false}
-use Rattle.rounding.proofs.Exactness.{exact, add-exact, sub-exact, size-signed}
+use Rattle.rounding.proofs.Rounded.{mul-at, unlike-false, is-wholes}
+use Rattle.rounding.proofs.Exactness.{power-exact, add-exact, sub-exact, size-signed}
 use Rattle.rounding.proofs.Near.{add-near, quanta-error, signed-times}
 use Rattle.rounding.proofs.Compared.{le-values, eq-values, level-same, same-level, between, from-below, from-above}
 use Rattle.units.specs.Units.{inUnits, OnUnits}
@@ -32,14 +31,14 @@ lowest = neg (ofBits binary64 0x4040_0000_0000_0000)
 abbrev pub highest : Float
 highest = ofBits binary64 0x4040_0000_0000_0000
 
-abbrev pub grains : Float
-grains = ofBits binary64 0x4090_0000_0000_0000
+abbrev pub perOne : Float
+perOne = ofBits binary64 0x4090_0000_0000_0000
 
 abbrev pub shift : Float
 shift = ofBits binary64 0x4338_0000_0000_0000
 
 abbrev pub scaled : Float → Float
-scaled x = mul binary64 x grains
+scaled x = mul binary64 x perOne
 
 abbrev pub shifted : Float → Float
 shifted x = sub binary64 (add binary64 (scaled x) shift) shift
@@ -54,9 +53,9 @@ highest-value : (c : ℕ) → HasValue highest false (32 * c) c
 unfolding ofBits
 highest-value c = (refl, sym (mul-one (32 * c)))
 
-grains-value : HasValue grains false 1024 1
+perOne-value : HasValue perOne false 1024 1
 unfolding ofBits
-grains-value = (refl, refl)
+perOne-value = (refl, refl)
 
 shift-is : (c : ℕ) → Is shift (pos (6755399441055744 * c)) c
 unfolding ofBits
@@ -66,7 +65,7 @@ shift-is c = record { sign = false; size = 6755399441055744 * c; value = (refl, 
 
 module _ (x : Float) (h : OnUnits x) where
   size-small : h .whole .size ≤ 32768
-  size-small = subst (λ (n : ℕ). n ≤ 32768) (ap natAbs (sym (h .whole .same)) ∙ size-signed (h .whole .sign) (h .whole .size)) (h .near)
+  size-small = subst (λ (n : ℕ). n ≤ 32768) (ap natAbs (sym (h .whole .same)) ∙ size-signed (h .whole .sign) (h .whole .size)) (h .range)
 
   pub passes-low : le lowest x ≡ true
   passes-low = le-values lowest x true (h .whole .sign) (32 * 1024) (h .whole .size) 1024 (lit< tt) (lowest-value 1024) (h .whole .value) ∙ from-below (h .whole .sign) (h .whole .size) 32768 (lit< tt) size-small
@@ -75,20 +74,14 @@ module _ (x : Float) (h : OnUnits x) where
   passes-high = le-values x highest (h .whole .sign) false (h .whole .size) (32 * 1024) 1024 (lit< tt) (h .whole .value) (highest-value 1024) ∙ from-above (h .whole .sign) (h .whole .size) 32768 (lit< tt) size-small
 
   scaled-is : Is (scaled x) (inUnits x) 1
-  scaled-is =
-      let v = h .whole in
-      let e : scaled x ≡ round binary64 (v .sign) (v .size) 1 =
-      mul-at binary64 x grains (v .sign) false (v .size) 1024 1024 1 (lit< tt) (lit< tt) (v .value) grains-value
-      ∙ ap (λ (s : Bool). round binary64 s (v .size * 1024) (1024 * 1)) (unlike-false (v .sign))
-      ∙ round-same binary64 (v .sign) (v .size * 1024) (1024 * 1) (v .size) 1 (lit< tt) (lit< tt) (mul-one (v .size * 1024)) in
-      exact binary64 0 (record { sign = v .sign; size = v .size; value = e; same = v .same }) (lt-of-le-of-lt (h .near) (lit< tt)) (lit≤ tt)
+  scaled-is = power-exact binary64 10 perOne (h .whole) perOne-value (lt-of-le-of-lt (h .range) (lit< tt))
 
   shifted-is : Is (shifted x) (inUnits x) 1
   shifted-is =
       let k = inUnits x in
       let c = pos 6755399441055744 in
-      let up-small : natAbs (k +ℤ c) < 2 ^ 53 = lt-of-le-of-lt (size-sum k c) (lt-of-le-of-lt (near-sum (h .near)) (lit< {m = 6755399441088512} {n = 2 ^ 53} tt)) in
-      let back-small : natAbs (k +ℤ c -ℤ c) < 2 ^ 53 = subst (λ (z : ℤ). natAbs z < 2 ^ 53) (sym (+ℤ-negℤ-cancel k c)) (lt-of-le-of-lt (h .near) (lit< tt)) in
+      let up-small : natAbs (k +ℤ c) < 2 ^ 53 = lt-of-le-of-lt (size-sum k c) (lt-of-le-of-lt (near-sum (h .range)) (lit< {m = 6755399441088512} {n = 2 ^ 53} tt)) in
+      let back-small : natAbs (k +ℤ c -ℤ c) < 2 ^ 53 = subst (λ (z : ℤ). natAbs z < 2 ^ 53) (sym (+ℤ-negℤ-cancel k c)) (lt-of-le-of-lt (h .range) (lit< tt)) in
       subst (λ (z : ℤ). Is (shifted x) z 1) (+ℤ-negℤ-cancel k c)
       (sub-exact binary64 0 (add-exact binary64 0 scaled-is (shift-is 1) up-small (lit≤ tt)) (shift-is 1) back-small (lit≤ tt))
     where
@@ -108,14 +101,8 @@ pub record WholeValue (t : Float) (s : Bool) (n l : ℕ) : Type 0 where
   pub same : number * l ≡ n
 
 digits : (u : Bool) (m : ℕ) (e : ℤ) → T (fits binary64 (fin u m e)) → m < 2 ^ 53
-unfolding fits
 digits u zero e h = lit< tt
-digits u (suc m) e h =
-    let A = eqb (suc m % 2) 1 in
-    let B = ltb (suc m) (2 ^ 53) in
-    let C = leb (down e) (2 ^ 1074) in
-    let D = ltb (suc m * up e) (2 ^ 1024 * down e) in
-    ltb→lt (suc m) (2 ^ 53) (and-r A B (and-l (A && B) C (and-l (A && B && C) D h)))
+digits u (suc m) e h = parts binary64 u m e h .0
 
 -- a fraction of 53 digits, a half or less of a whole number each, is below 2 ^ 52
 too-small : (m n l k : ℕ) → 0 < l → m < 2 ^ 53 → m * 1 * l ≡ n * 2 ^ suc k → 2 ^ 52 * l ≤ n → ⊥
@@ -175,17 +162,17 @@ module _ (l : ℕ) (L : 0 < l) (y : Float) (Y : ℤ) (v : Is y Y l) (small : nat
   Z-least : 6755399441055744 * l ≤ natAbs Z + natAbs Y
   Z-least = le-trans (le-of-eq (ap natAbs (less-first Y (pos (6755399441055744 * l))))) (size-minus Z Y)
 
-  number-least : natAbs Z ≤ natAbs (n) + natAbs (n -ℤ Z)
-  number-least = le-trans (le-of-eq (ap natAbs (again (n) Z))) (size-minus (n) (n -ℤ Z))
+  number-least : natAbs Z ≤ natAbs n + natAbs (n -ℤ Z)
+  number-least = le-trans (le-of-eq (ap natAbs (again n Z))) (size-minus n (n -ℤ Z))
 
   off : natAbs (n -ℤ Z) ≤ l
-  off = error-small l (natAbs Y) (natAbs Z) (natAbs (n -ℤ Z)) (natAbs (n)) small Z-most Z-least error number-least
+  off = error-small l (natAbs Y) (natAbs Z) (natAbs (n -ℤ Z)) (natAbs n) small Z-most Z-least error number-least
 
   is-whole : WholeValue sum (value .sign) (value .size) l
   is-whole =
       large-whole sum (value .sign) (value .size) l L (add-fits binary64 y shift) (value .value)
       (subst (λ (n : ℕ). 2 ^ 52 * l ≤ n) (ap natAbs (sym (value .same)) ∙ size-signed (value .sign) (value .size))
-      (sum-large l (natAbs Y) (natAbs Z) (natAbs (n -ℤ Z)) (natAbs (n)) small Z-most Z-least error number-least))
+      (sum-large l (natAbs Y) (natAbs Z) (natAbs (n -ℤ Z)) (natAbs n) small Z-most Z-least error number-least))
 
   abbrev difference : ℤ
   difference = signed (value .sign) (is-whole .number) -ℤ pos 6755399441055744
@@ -244,7 +231,7 @@ module _ (s : Bool) (m : ℕ) (e : ℤ) (h : T (fits binary64 (fin s m e))) (low
   scaled-value : HasValue (scaled x) s (a * 1024) (2 ^ 1074)
   scaled-value =
       subst (λ (y : Float). HasValue y s (a * 1024) (2 ^ 1074))
-      (sym (mul-at binary64 x grains s false a (2 ^ 1074) 1024 1 (pow-pos 1074) (lit< tt) x-value grains-value ∙ ap (λ (t : Bool). round binary64 t (a * 1024) (2 ^ 1074 * 1)) (unlike-false s)))
+      (sym (mul-at binary64 x perOne s false a (2 ^ 1074) 1024 1 (pow-pos 1074) (lit< tt) x-value perOne-value ∙ ap (λ (t : Bool). round binary64 t (a * 1024) (2 ^ 1074 * 1)) (unlike-false s)))
       (rounds binary64 s (a * 1024) (2 ^ 1074 * 1) (a * 1024) (lit< tt) refl scaled-quanta)
 
   abbrev Y : ℤ
@@ -268,25 +255,16 @@ module _ (s : Bool) (m : ℕ) (e : ℤ) (h : T (fits binary64 (fin s m e))) (low
   unfolding y-is
   k-is = whole-of (2 ^ 1074) (pow-pos 1074) (scaled x) Y y-is y-small (signedQuanta binary64 (add binary64 (scaled x) shift)) (near .is) (quanta-error binary64 near) whole
 
-  thousandths : (k a l p d : ℕ) → 0 < l → p * l ≡ a * d → k * l ≡ a * 1024 → p * 1024 ≡ k * d
-  thousandths k a l p d L f g =
-      eq-of-mul-eq-mul-right l L (p * 1024) (k * d)
-      (mul-right-comm p 1024 l ∙ ap (λ (n : ℕ). n * 1024) f ∙ mul-right-comm a d 1024 ∙ ap (λ (n : ℕ). n * d) (sym g) ∙ mul-right-comm k l d)
-
-  x-thousandths : m * up e * 1024 ≡ k * down e
-  x-thousandths = thousandths k a (2 ^ 1074) (m * up e) (down e) (pow-pos 1074) (quanta-exact binary64 s m e h) k-is
-
-  units-are : signed s k ≡ inUnits x
-  units-are = ap (signed s) (sym (ap (λ (n : ℕ). n / down e) x-thousandths ∙ mul-div-cancel k (down-pos e)))
+  x-is : Is x (signed s k) 1024
+  x-is = record { sign = s; size = k; value = rescale x s a (2 ^ 1074) k 1024 (pow-pos 1074) k-is x-value; same = refl }
 
   k-most : k ≤ 32768
   k-most = le-of-mul-le-mul-right (le-trans (le-of-eq k-is) (le-trans (mul-le-mul-right 1024 a-most) (lit≤ tt))) (pow-pos 1074)
 
   finite-on : OnUnits x
-  finite-on = record {
-    whole = record { sign = s; size = k; value = (refl, x-thousandths); same = units-are };
-    near = subst (λ (n : ℕ). n ≤ 32768) (sym (size-signed s k) ∙ ap natAbs units-are) k-most;
-  }
+  finite-on =
+      let e : signed s k ≡ inUnits x = sym (is-wholes x-is) in
+      record { whole = subst (λ (z : ℤ). Is x z 1024) e x-is; range = subst (λ (n : ℕ). n ≤ 32768) (sym (size-signed s k) ∙ ap natAbs e) k-most }
 
 pub on-units : (x : Float) → T (fits binary64 x) → le lowest x ≡ true → le x highest ≡ true → eq (shifted x) (scaled x) ≡ true → OnUnits x
 unfolding le ofBits neg

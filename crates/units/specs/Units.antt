@@ -19,7 +19,7 @@ inUnits x = wholes 1024 x
 -- it is finite and a whole number of units, at most 32,768 either way
 pub record OnUnits (x : Float) : Type 0 where
   pub whole : Is x (inUnits x) 1024
-  pub near : natAbs (inUnits x) ≤ 32768
+  pub range : natAbs (inUnits x) ≤ 32768
 
 -- every coordinate of the list is, of points that are used and of those that are not
 abbrev pub AllOnUnits : List Float → Type 0

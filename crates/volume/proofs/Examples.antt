@@ -57,10 +57,10 @@ swapped (suc (suc i)) = suc (suc i)
 -- ---- they are on whole units
 
 zero-on : OnUnits o
-zero-on = record { whole = record { sign = false; size = 0; value = (refl, refl); same = refl }; near = lit≤ tt }
+zero-on = record { whole = record { sign = false; size = 0; value = (refl, refl); same = refl }; range = lit≤ tt }
 
 one-on : OnUnits e
-one-on = record { whole = record { sign = false; size = 1024; value = (refl, refl); same = refl }; near = lit≤ tt }
+one-on = record { whole = record { sign = false; size = 1024; value = (refl, refl); same = refl }; range = lit≤ tt }
 
 abbrev Each : List Float → Type 0
 Each [] = Unit {0}

@@ -2,25 +2,23 @@
 use mathlib.Core.Path.{_≡_, refl, sym, ap, _∙_, subst, subst₂}
 use mathlib.Core.Bool.{Bool, false, cond}
 use mathlib.Core.List.{List}
-use Prim.Native.Nat.{ℕ, suc, _-_, _*_, _/_, _^_, _≤_, _<_}
-use native.Mathlib.Nat.{mul-one, le-of-lt, lt-of-lt-of-le}
+use Prim.Native.Nat.{ℕ, suc, _-_, _/_, _^_, _≤_, _<_}
+use native.Mathlib.Nat.{le-of-lt, lt-of-lt-of-le}
 use native.Mathlib.Omega.{arith}
 use lib.Dec.{T, lit≤, lit<, le→leb}
 use borrow.Author.Tests.{le-ltb}
 use lib.IntN.{ℤ, pos, negsuc, natAbs, _+ℤ_}
 use lib.ListN.{length}
-use lib.Pow.{pow-pos}
 use lib.Ieee.{Float, binary64, ofBits, ofInt, round, add, inFloat, inUnsigned, toUnsigned}
 use lib.Ieee.Back.{round-whole, unsigned-back, whole-unique}
 use lib.Ieee.Exact.{HasValue}
 use lib.Ieee.Fits.{add-fits, ofInt-fits}
-use lib.Ieee.Scale.{round-same}
 use Rattle.float.specs.Point.{plus, times, dotted, crossed}
 use Rattle.surface.specs.Triangle.{tri}
 use Rattle.checking.specs.Validate.{placed}
 use Rattle.rounding.specs.Fraction.{Is}
-use Rattle.rounding.proofs.Rounded.{mul-at, unlike-false, not-negative}
-use Rattle.rounding.proofs.Exactness.{exact}
+use Rattle.rounding.proofs.Rounded.{not-negative}
+use Rattle.rounding.proofs.Exactness.{power-exact}
 use Rattle.rounding.proofs.Bounded.{Holds, holds-plus}
 use Rattle.units.specs.Units.{AllOnUnits, unitsAt}
 use Rattle.volume.specs.Six.{sixAt}
@@ -45,12 +43,7 @@ lift-holds = record { is = record { sign = false; size = 2251799813685248; value
 -- d is z of 2 ^ -30: scaled, it is z
 scaled-holds : {d : Float} {z : ℤ} → Holds d z 30 mostSix → Holds (times d scale) z 0 mostSix
 scaled-holds {d} {z} h =
-    let v = h .is in
-    let e : times d scale ≡ round binary64 (v .sign) (v .size) 1 =
-    mul-at binary64 d scale (v .sign) false (v .size) (2 ^ 30) 1073741824 1 (pow-pos 30) (lit< tt) (v .value) scale-value
-    ∙ ap (λ (s : Bool). round binary64 s (v .size * 1073741824) (2 ^ 30 * 1)) (unlike-false (v .sign))
-    ∙ round-same binary64 (v .sign) (v .size * 1073741824) (2 ^ 30 * 1) (v .size) 1 (lit< tt) (lit< tt) (mul-one (v .size * 1073741824)) in
-    record { is = exact binary64 0 (record { sign = v .sign; size = v .size; value = e; same = v .same }) (lt-of-lt-of-le (fewer (h .most)) (lit≤ {m = 2251799813685248} {n = 2 ^ 53} tt)) (lit≤ tt); most = h .most }
+    record { is = power-exact binary64 30 scale (h .is) scale-value (lt-of-lt-of-le (fewer (h .most)) (lit≤ {m = 2251799813685248} {n = 2 ^ 53} tt)); most = h .most }
   where
     fewer : {n : ℕ} → n ≤ mostSix → n < 2251799813685248
     fewer {n} l = omega arith

@@ -11,7 +11,7 @@ use Rattle.surface.specs.PageTwelve.{turned, Turns, first, second, third, EachT
 use Rattle.integers.proofs.Ring.{swap-first}
 use Rattle.integers.proofs.Polynomial.{identity, vanishes}
 use Rattle.units.specs.Units.{WholePoint}
-use Rattle.volume.specs.Six.{from, determinant, sixAt, six}
+use Rattle.volume.specs.Six.{measuredFrom, determinant, sixAt, six}
 use Rattle.volume.proofs.Symbols.{symbol, fromₑ, determinantₑ}
 
 module _ (o : WholePoint) (point : ℕ → WholePoint) where
@@ -60,5 +60,5 @@ six-renumbered o point point′ number (x ∷ y ∷ z ∷ cs) h =
     let first : point′ (number x) ≡ point x = h 0 (omega arith) in
     let second : point′ (number y) ≡ point y = h 1 (omega arith) in
     let third : point′ (number z) ≡ point z = h 2 (omega arith) in
-    ap₂ (λ (i j : ℤ). i +ℤ j) (λ i. determinant (from o (sym first i)) (from o (sym second i)) (from o (sym third i)))
+    ap₂ (λ (i j : ℤ). i +ℤ j) (λ i. determinant (measuredFrom o (sym first i)) (measuredFrom o (sym second i)) (measuredFrom o (sym third i)))
     (six-renumbered o point point′ number cs (λ k l. h (suc (suc (suc k))) (omega arith)))

@@ -7,7 +7,7 @@ use lib.IntN.{ℤ, pos, negℤ, _+ℤ_, +ℤ-idl, +ℤ-idr}
 use Rattle.surface.specs.Triangle.{Tri}
 use Rattle.surface.specs.Original.{directed}
 use Rattle.units.specs.Units.{WholePoint}
-use Rattle.volume.specs.Six.{from, cross, dot, sixAt, six}
+use Rattle.volume.specs.Six.{measuredFrom, cross, dot, sixAt, six}
 use Rattle.integers.proofs.Polynomial.{Expression, at, whole, plus, minus, identity, vanishes}
 use Rattle.volume.specs.Volume.{Balanced}
 use Rattle.volume.proofs.Symbols.{Symbol, symbol, fromₑ, crossₑ, dotₑ, determinantₑ}
@@ -37,7 +37,7 @@ shiftₑ u v = dotₑ (fromₑ O′ O) (crossₑ (fromₑ O u) (fromₑ O v))
 module _ (point : ℕ → WholePoint) (o o′ : WholePoint) where
   -- what a directed side adds
   abbrev shift : ℕ → ℕ → ℤ
-  shift u v = dot (from o′ o) (cross (from o (point u)) (from o (point v)))
+  shift u v = dot (measuredFrom o′ o) (cross (measuredFrom o (point u)) (measuredFrom o (point v)))
 
   abbrev numbers : (a b c : WholePoint) → List ℤ
   numbers a b c = o .x ∷ o .y ∷ o .z ∷ o′ .x ∷ o′ .y ∷ o′ .z ∷ a .x ∷ a .y ∷ a .z ∷ b .x ∷ b .y ∷ b .z ∷ c .x ∷ c .y ∷ c .z ∷ []

@@ -7,8 +7,9 @@ use lib.IntN.{ℤ, pos, negsuc, negℤ, _+ℤ_, negℤ-+ℤ, pos-ne-negsuc}
 use Rattle.surface.specs.Triangle.{Tri}
 use Rattle.surface.specs.Closed.{sides, Step, step, Paired}
 use Rattle.surface.specs.Original.{directed}
-use Rattle.surface.proofs.Reading.{Hit, same, first, second, view, hit-yes, hit-swap, sides-cons}
-use Rattle.surface.proofs.Pairs.{tally, tally-perm}
+use Rattle.surface.proofs.Reading.{Hit, same, first, second, view, hit-yes, hit-swap}
+use Rattle.surface.proofs.Pairs.{step-path, tally, tally-perm}
+use Rattle.surface.proofs.Original.{directed-sides}
 use Rattle.integers.proofs.Ring.{swap-first}
 use Rattle.volume.specs.Volume.{Balanced}
 
@@ -17,9 +18,6 @@ use Rattle.volume.specs.Volume.{Balanced}
 record Without (x : Step) (l : List Step) : Type 0 where
   rest : List Step
   perm : List·Permᴰ l (x ∷ rest)
-
-step-path : {x y : Step} → x .from ≡ y .from → x .to ≡ y .to → x ≡ y
-step-path p q = λ i. record { from = p i; to = q i }
 
 take-out : (x : Step) (l : List Step) → 0 < tally l (x .from) (x .to) → Without x l
 unfolding tally
@@ -30,7 +28,7 @@ take-out x (y ∷ l) h = go (view (y .from) (y .to) (x .from) (x .to)) (take-out
     later w = record { rest = y ∷ w .rest; perm = List·Permᴰ·trans (List·Permᴰ·cons refl (w .perm)) (List·Permᴰ·swap refl refl) }
 
     go : Hit (y .from) (y .to) (x .from) (x .to) → (0 < tally l (x .from) (x .to) → Without x l) → Without x (y ∷ l)
-    go (same p q e) f = record { rest = l; perm = List·Permᴰ·cons (step-path p q) (Permᴰ·refl l) }
+    go (same p q e) f = record { rest = l; perm = List·Permᴰ·cons (step-path (p, q)) (Permᴰ·refl l) }
     go (first n e) f = later (f (omega arith))
     go (second n e) f = later (f (omega arith))
 
@@ -66,11 +64,6 @@ tally-back : (l : List Step) (u v : ℕ) → tally (map back l) u v ≡ tally l 
 unfolding tally
 tally-back [] u v = refl
 tally-back (x ∷ l) u v = omega (arith, tally-back l u v, hit-swap (x .to) (x .from) u v)
-
-directed-sides : (ts : List Tri) (u v : ℕ) → tally (directed ts) u v ≡ sides ts u v
-unfolding tally directed sides
-directed-sides [] u v = refl
-directed-sides (t ∷ ts) u v = omega (arith, sides-cons t ts u v, directed-sides ts u v)
 
 pub paired-balanced : {ts : List Tri} → Paired ts → Balanced ts
 paired-balanced {ts} p u v = go (sides ts u v) (sides ts v u) (p .once u v) (p .back u v) (p .once v u) (p .back v u)

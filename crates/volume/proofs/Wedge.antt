@@ -10,14 +10,14 @@ use Rattle.float.specs.declared.Point.{Point}
 use Rattle.checking.specs.Validate.{pointAt, placed}
 use Rattle.units.specs.Units.{WholePoint, AllOnUnits, unitsAt, inUnits}
 use Rattle.rounding.proofs.Bounded.{Holds, holds-minus, holds-plus, holds-times}
-use Rattle.volume.specs.Six.{from, cross, dot, determinant}
+use Rattle.volume.specs.Six.{measuredFrom, cross, dot, determinant}
 
 pub record PointHolds (p : Point) (w : WholePoint) (k b : ℕ) : Type 0 where
   pub x : Holds (p .x) (w .x) k b
   pub y : Holds (p .y) (w .y) k b
   pub z : Holds (p .z) (w .z) k b
 
-difference-holds : {p q : Point} {v w : WholePoint} → PointHolds p v 10 32768 → PointHolds q w 10 32768 → PointHolds (difference p q) (from w v) 10 65536
+difference-holds : {p q : Point} {v w : WholePoint} → PointHolds p v 10 32768 → PointHolds q w 10 32768 → PointHolds (difference p q) (measuredFrom w v) 10 65536
 difference-holds g h = record { x = one (g .x) (h .x); y = one (g .y) (h .y); z = one (g .z) (h .z) }
   where
     one : {x y : Float} {a c : ℤ} → Holds x a 10 32768 → Holds y c 10 32768 → Holds (less x y) (a -ℤ c) 10 65536
@@ -53,7 +53,7 @@ module _ (points : List Float) (on : AllOnUnits points) where
   point-holds i l = record { x = one (3 * i) (omega arith); y = one (3 * i + 1) (omega arith); z = one (3 * i + 2) (omega arith) }
     where
       one : (j : ℕ) → j < length points → Holds (getD points j nan) (inUnits (getD points j nan)) 10 32768
-      one j k = record { is = on j k .whole; most = on j k .near }
+      one j k = record { is = on j k .whole; most = on j k .range }
 
-  pub placed-holds : (i : ℕ) → i < length points / 3 → PointHolds (placed points i) (from (unitsAt points 0) (unitsAt points i)) 10 65536
+  pub placed-holds : (i : ℕ) → i < length points / 3 → PointHolds (placed points i) (measuredFrom (unitsAt points 0) (unitsAt points i)) 10 65536
   placed-holds i l = difference-holds (point-holds i l) (point-holds 0 (omega arith))

@@ -1,5 +1,5 @@
 -- The two words in which `exact` adds: one lemma for each of its turns, over plain lists. Assumes nothing.
-use Prim.Native.Nat.{ℕ, suc, _+_, _*_, _/_, _%_, _^_, _≤_, _<_}
+use Prim.Native.Nat.{ℕ, _+_, _*_, _/_, _%_, _^_, _≤_, _<_}
 use mathlib.Core.Path.{_≡_, refl, sym, ap, ap₂, _∙_, subst, subst₂}
 use mathlib.Core.List.{List, [], _∷_}
 use native.Mathlib.Nat.{le-trans, lt-of-le-of-lt, lt-of-lt-of-le}
@@ -7,7 +7,6 @@ use native.Mathlib.Omega.{arith}
 use lib.Dec.{lit≤}
 use lib.IntN.{ℤ, pos, negsuc, natAbs, _+ℤ_, _-ℤ_, _*ℤ_, +ℤ-idl, +ℤ-idr, +ℤ-assoc, +ℤ-negℤ-cancel}
 use lib.ListN.{length, getD, drop, drop-of-length-le}
-use lib.Seq.{drop-cons}
 use lib.Ieee.{Float}
 use lib.Signed.{mag}
 use mir.Syntax.{w64}
@@ -16,6 +15,7 @@ use mir.ValLaws.{toZ-pos, toZ-ofZ}
 use Rattle.surface.specs.Triangle.{Tri, tri, triangles}
 use Rattle.integers.proofs.Size.{size-minus}
 use Rattle.integers.proofs.Polynomial.{at, plus, minus, times, identity, vanishes}
+use Rattle.checking.proofs.Turns.{triangles-more}
 use Rattle.units.specs.Units.{unitsAt}
 use Rattle.volume.specs.Six.{sixAt, six}
 use Rattle.volume.specs.Stages.{lifted}
@@ -43,15 +43,9 @@ module _ (points : List Float) (corners : List ℕ) where
   pub nothing-yet : Summing 0 0 0
   nothing-yet = record { bounded = omega arith; thirds = refl; small = omega arith; few = omega arith; sum = +ℤ-idl (left 0) ∙ sym (+ℤ-idr (left 0)) }
 
-  one-more : (j k : ℕ) → j < length corners → suc j ≡ k → drop j corners ≡ getD corners j 0 ∷ drop k corners
-  one-more j k h e = drop-cons corners j 0 h ∙ ap (λ (n : ℕ). getD corners j 0 ∷ drop n corners) e
-
   left-more : (i : ℕ) → i + 2 < length corners → left i ≡ share i +ℤ left (i + 3)
-  unfolding triangles six
-  left-more i h =
-      ap (λ (l : List ℕ). six (unitsAt points 0) (unitsAt points) (triangles l))
-      (one-more i (i + 1) (omega arith) (omega arith)
-      ∙ ap (λ (l : List ℕ). getD corners i 0 ∷ l) (one-more (i + 1) (i + 2) (omega arith) (omega arith) ∙ ap (λ (l : List ℕ). getD corners (i + 1) 0 ∷ l) (one-more (i + 2) (i + 3) (omega arith) (omega arith))))
+  unfolding six
+  left-more i h = ap (six (unitsAt points 0) (unitsAt points)) (triangles-more corners i h)
 
   -- the words with a share added
   module _ (high low i e : ℕ) (s : Summing high low i) (h : i + 2 < length corners) (p : Positive (share i)) (given : e ≡ lifted (share i)) where

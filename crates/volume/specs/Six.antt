@@ -5,9 +5,9 @@ use lib.IntN.{ℤ, pos, _+ℤ_, _-ℤ_, _*ℤ_}
 use Rattle.surface.specs.Triangle.{Tri}
 use Rattle.units.specs.Units.{WholePoint}
 
--- the point p measured from o
-abbrev pub from : WholePoint → WholePoint → WholePoint
-from o p = record { x = p .x -ℤ o .x; y = p .y -ℤ o .y; z = p .z -ℤ o .z }
+-- the point p, measured from o
+abbrev pub measuredFrom : WholePoint → WholePoint → WholePoint
+measuredFrom o p = record { x = p .x -ℤ o .x; y = p .y -ℤ o .y; z = p .z -ℤ o .z }
 
 abbrev pub cross : WholePoint → WholePoint → WholePoint
 cross p q = record {
@@ -25,7 +25,7 @@ determinant a b c = dot a (cross b c)
 
 -- six times the volume between a triangle and the point o, where corner number i is the point `point i`
 abbrev pub sixAt : WholePoint → (ℕ → WholePoint) → Tri → ℤ
-sixAt o point t = determinant (from o (point (t .a))) (from o (point (t .b))) (from o (point (t .c)))
+sixAt o point t = determinant (measuredFrom o (point (t .a))) (measuredFrom o (point (t .b))) (measuredFrom o (point (t .c)))
 
 -- six times the volume of a list of triangles, measured from o
 unfoldable pub six : WholePoint → (ℕ → WholePoint) → List Tri → ℤ
