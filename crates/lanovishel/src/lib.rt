@@ -2,11 +2,13 @@
 // pointer. None asks anything of its caller: a bad call is answered with its number.
 use checking::Verdict;
 use editing::Outcome;
+use price::Quote;
 ghost use mathlib.Core.Path.{_≡_};
 ghost use Prim.Native.Nat.{_%_, _^_};
 ghost use lib.Ieee.{binary64};
 ghost use Rattle.float.specs.Root.{root};
 ghost use Rattle.lanovishel.specs.Check.{Checked};
+ghost use Rattle.lanovishel.specs.Price.{PriceCall};
 ghost use Rattle.lanovishel.specs.Edit.{EditCall};
 ghost use Rattle.lanovishel.specs.Improve.{ImproveCall};
 
@@ -40,6 +42,35 @@ pub extern "C" fn lanovishel_check(
         Verdict::Refused(why) => {
             *numbers = [0.0, 0.0];
             *place = why.place(); // 0 0 but for a finding
+            why.number()
+        }
+    }
+}
+
+// The price of a surface: 0 with the cents, or the number of the refusal, with the place of what is found.
+// `uppers` are the upper volumes of the price sheet's steps but the last, `prices` what a unit cube costs.
+#[no_mangle]
+pub extern "C" fn lanovishel_price(
+    points: &[f64],
+    corners: &[u32],
+    labels: &[u8],
+    work: &mut [u32],
+    uppers: &[u64],
+    prices: &[u64],
+    cents: &mut [u64; 1],
+    place: &mut [u32; 2],
+) -> u32
+    ensures { λ r. ⌜ PriceCall (now (points .entry)) (now (corners .entry)) (now (labels .entry)) (now (work .entry)) (now (uppers .entry)) (now (prices .entry)) (now (work .exit)) (now (cents .exit)) (now (place .exit)) r ⌝ }
+{
+    match price::price(points, corners, labels, work, uppers, prices) {
+        Quote::Price(sum) => {
+            *cents = [sum];
+            *place = [0, 0];
+            0
+        }
+        Quote::Refused(why) => {
+            *cents = [0];
+            *place = why.place();
             why.number()
         }
     }

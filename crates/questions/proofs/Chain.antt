@@ -26,7 +26,7 @@ use Rattle.questions.specs.declared.Refusal.{Refusal}
 use Rattle.questions.specs.declared.Refusal.the-variants.{Question}
 use Rattle.questions.specs.declared.Asked.{Asked}
 use Rattle.questions.specs.declared.Asked.the-variants.{Passed, Refused}
-use Rattle.questions.proofs.All.{all-at}
+use Rattle.surface.proofs.All.{all-at}
 use Rattle.questions.proofs.Rules.{differ?-iff, distinct?-iff}
 use Rattle.questions.proofs.Counted.{Counted, not-both, words-late}
 

@@ -16,7 +16,7 @@ use Rattle.questions.specs.Questions.{unopposed?}
 use Rattle.surface.specs.Label.{carries}
 use Rattle.questions.specs.Labels.{both, opposed}
 use Rattle.questions.specs.Stages.{opp}
-use Rattle.questions.proofs.All.{all-at, at-all}
+use Rattle.surface.proofs.All.{all-at, at-all}
 
 -- the place j, below n, names v and has the label l
 pub record Labelled (c ls : List ℕ) (n v l : ℕ) : Type 0 where

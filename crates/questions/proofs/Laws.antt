@@ -19,7 +19,7 @@ use Rattle.questions.specs.Questions.{ask, andThen, lentQuestions, furth
 use Rattle.questions.specs.Admitted.{Admitted}
 use Rattle.questions.specs.declared.Asked.{Asked}
 use Rattle.questions.specs.declared.Asked.the-variants.{Passed, Refused}
-use Rattle.questions.proofs.All.{all-at, at-all}
+use Rattle.surface.proofs.All.{all-at, at-all}
 use Rattle.questions.proofs.Counted.{not-both, lent-passed, asked-finite}
 use Rattle.questions.proofs.Rules.{differ?-iff, distinct?-iff}
 use Rattle.questions.proofs.Labels.{unopposed-every, every-unopposed}

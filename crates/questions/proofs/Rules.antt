@@ -14,7 +14,7 @@ use Rattle.surface.specs.Check.{differ?, every}
 use Rattle.surface.specs.Edit.{place}
 use Rattle.surface.proofs.Bools.{both, join, not-true, true-false, or-cases}
 use Rattle.questions.specs.Rules.{within?, distinct?}
-use Rattle.questions.proofs.All.{all-at, at-all}
+use Rattle.surface.proofs.All.{all-at, at-all}
 
 -- a test of each of three, and each of them
 three : (p q r : Bool) → (p && (q && r)) ≡ true → (p ≡ true) × (q ≡ true) × (r ≡ true)

@@ -1,7 +1,8 @@
 -- The theorems, in the terms of the definitions: `Laws` (the laws of flips and collapses), `PageTwelve` (the order of the list), `Decision` (the test decides), `Findings` (there is one finding, and it is computed), `Valence` (rule (d) by counting),
 -- `Original` (the Rust's test answers likewise), `FlipRings`, `CollapseRings` and `Counts` (what the edits do to the rings), `Labels`, `Formula` (Euler's number); and `Examples`, small surfaces by computation.
--- `Flat` and `Held` have the lists of corner numbers. The others lead there: `Surface` is closedness without any order, and `Bridge` goes from the one to the other.
+-- `Flat` and `Held` have the lists of corner numbers, `All` tests of every element of a list. The others lead there: `Surface` is closedness without any order, and `Bridge` goes from the one to the other.
 pub mod Bools
+pub mod All
 pub mod Reading
 pub mod Rings
 pub mod Steps

@@ -36,10 +36,10 @@ abbrev e : Float
 e = fin false 1 (pos 0)
 
 -- (0, 0, 0), (1, 0, 0), (0, 1, 0), (0, 0, 1)
-abbrev points : List Float
+abbrev pub points : List Float
 points = o ∷ o ∷ o ∷ e ∷ o ∷ o ∷ o ∷ e ∷ o ∷ o ∷ o ∷ e ∷ []
 
-abbrev corners : List ℕ
+abbrev pub corners : List ℕ
 corners = 0 ∷ 2 ∷ 1 ∷ 0 ∷ 1 ∷ 3 ∷ 0 ∷ 3 ∷ 2 ∷ 1 ∷ 2 ∷ 3 ∷ []
 
 -- the first two points change places, and the first triangle's turn begins one corner later

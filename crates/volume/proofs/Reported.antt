@@ -19,17 +19,17 @@ use Rattle.surface.specs.Triangle.{Tri, triangles}
 use Rattle.surface.proofs.Flat.{length-triangles}
 use Rattle.quality.specs.Quality.{number, wedge, degenerate}
 use Rattle.questions.specs.declared.Refusal.the-variants.{Question}
-use Rattle.questions.proofs.Counted.{Counted, lent-passed}
 use Rattle.checking.specs.Validate.{placed, outside, qualityAt, wedgeAt, next, measured}
 use Rattle.checking.specs.declared.Verdict.{Verdict}
 use Rattle.checking.specs.declared.Verdict.the-variants.{Accepted}
 use Rattle.checking.proofs.Turns.{Within, within, by-tests, refused}
 use Rattle.checking.proofs.Sound.{never}
-use Rattle.checking.proofs.Laws.{Sound, accepted-lent, accepted-measured, sound}
+use Rattle.checking.proofs.Laws.{Sound, accepted-measured, sound}
 use Rattle.units.specs.Units.{WholePoint, AllOnUnits, unitsAt}
 use Rattle.volume.specs.Six.{sixAt, six}
 use Rattle.volume.specs.Error.{NearExact}
 use Rattle.volume.specs.Volume.{Reports, many, sixOf}
+use Rattle.volume.proofs.Accepted.{counted}
 use Rattle.volume.proofs.Wedge.{placed-holds, determinant-holds}
 use Rattle.volume.proofs.Turn.{Summed, share-added}
 
@@ -71,11 +71,11 @@ unfolding ofInt
 begin = record { number = pos 0; is = record { sign = false; size = 0; value = (refl, refl); same = refl }; error = lit≤ tt; most = lit≤ tt }
 
 module _ {points : List Float} {corners : List ℕ} {volume : Float} (r : Reports points corners volume) where
-  pub counted : Counted points corners (r .labels) (r .work)
-  counted = lent-passed points corners (r .labels) (r .work) (accepted-lent points corners (r .labels) (r .work) (r .quality) volume (r .accepted)) .0
-
   few : length (triangles corners) ≤ 32768
-  few = let n = length-triangles (length corners / 3) corners (omega (arith, counted .corners)) in omega (arith, counted .few-triangles)
+  few =
+      let c = counted points corners (r .labels) (r .work) (r .quality) volume (r .accepted) in
+      let n = length-triangles (length corners / 3) corners (omega (arith, c .corners)) in
+      omega (arith, c .few-triangles)
 
   is-measured : measured points corners ≡ Accepted (r .quality) volume
   is-measured = accepted-measured points corners (r .labels) (r .work) (r .quality) volume (r .accepted) (r .some)

@@ -18,11 +18,10 @@ use Rattle.surface.proofs.Rings.{length-perm}
 use Rattle.units.specs.Units.{WholePoint, unitsAt}
 use Rattle.volume.specs.Error.{NearExact, NearEachOther}
 use Rattle.volume.specs.Volume.{Balanced, ListedAnew, Reports, many, sixOf, SixLaws, ReportLaws}
-use Rattle.volume.specs.Exact.{Measurable}
-use Rattle.volume.proofs.Sides.{paired-balanced}
 use Rattle.volume.proofs.Origin.{six-origin}
 use Rattle.volume.proofs.Listing.{six-listing, six-renumbered}
-use Rattle.volume.proofs.Reported.{counted, is-sound, reported-from-first}
+use Rattle.volume.proofs.Accepted.{balanced}
+use Rattle.volume.proofs.Reported.{reported-from-first}
 
 -- ---- two that are near to one volume are near to one another
 
@@ -61,14 +60,17 @@ many-anew : {points points′ : List Float} {corners corners′ : List ℕ} → 
 many-anew {corners = corners} a = sym (length-perm (a .listed .same) ∙ each-length (a .listed .turns)) ∙ length-map (triangles corners) (renumber (a .number))
 
 is-balanced : {points : List Float} {corners : List ℕ} {volume : Float} → Reports points corners volume → Balanced (triangles corners)
-is-balanced r = paired-balanced (is-sound r .paired)
+is-balanced {points} {corners} {volume} r = balanced points corners (r .labels) (r .work) (r .quality) volume (r .accepted)
+
+pub one-six : {points points′ : List Float} {corners corners′ : List ℕ} → Balanced (triangles corners) → ListedAnew points corners points′ corners′ → (o o′ : WholePoint) → sixOf points corners o ≡ sixOf points′ corners′ o′
+one-six {points} {points′} {corners} b a o o′ =
+    six-origin (unitsAt points) (triangles corners) b o o′
+    ∙ six-renumbered o′ (unitsAt points) (unitsAt points′) (a .number) corners (a .kept)
+    ∙ six-listing o′ (unitsAt points′) (a .listed)
 
 one-volume : {points points′ : List Float} {corners corners′ : List ℕ} {volume : Float} → Reports points corners volume → ListedAnew points corners points′ corners′
     → (o o′ : WholePoint) → sixOf points corners o ≡ sixOf points′ corners′ o′
-one-volume {points} {points′} {corners} r a o o′ =
-    six-origin (unitsAt points) (triangles corners) (is-balanced r) o o′
-    ∙ six-renumbered o′ (unitsAt points) (unitsAt points′) (a .number) corners (a .kept)
-    ∙ six-listing o′ (unitsAt points′) (a .listed)
+one-volume r a = one-six (is-balanced r) a
 
 reported-near : {points : List Float} {corners : List ℕ} {volume : Float} → Reports points corners volume → (o : WholePoint) → NearExact (many corners) volume (sixOf points corners o)
 reported-near {points} {corners} {volume} r o =
@@ -93,12 +95,3 @@ report-laws-of Reported says = record {
 
 pub report-laws : ReportLaws Reports
 report-laws = report-laws-of Reports (λ points corners volume r. r)
-
--- an accepted surface may be handed to `exact`
-pub measurable : {points : List Float} {corners : List ℕ} {volume : Float} → Reports points corners volume → Measurable points corners
-measurable r = record {
-  units = r .units;
-  thirds = counted r .corners;
-  few = counted r .few-triangles;
-  below = is-sound r .below;
-}

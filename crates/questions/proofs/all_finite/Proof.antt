@@ -7,7 +7,7 @@ use lib.Ieee.{nan}
 use borrow.Author.Needs.{needs}
 use Rattle.float.specs.Order.{isFinite}
 use Rattle.surface.specs.Check.{every}
-use Rattle.questions.proofs.All.{all-and, all-done}
+use Rattle.surface.proofs.All.{all-and, all-done}
 use Rattle.questions.proofs.all_finite.Statement.{statement}
 use Rattle.questions.proofs.all_finite.Tie as tie
 

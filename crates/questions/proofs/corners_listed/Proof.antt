@@ -7,7 +7,7 @@ use native.Mathlib.Omega.{arith}
 use borrow.Author.Needs.{needs}
 use borrow.Author.Tests.{le-ltb, lt-ltb}
 use Rattle.questions.specs.Questions.{listed?}
-use Rattle.questions.proofs.All.{all-on, all-out, all-done}
+use Rattle.surface.proofs.All.{all-on, all-out, all-done}
 use Rattle.questions.proofs.corners_listed.Statement.{statement}
 use Rattle.questions.proofs.corners_listed.Tie as tie
 

@@ -7,7 +7,7 @@ use native.Mathlib.Omega.{arith}
 use borrow.Author.Needs.{needs}
 use borrow.Author.Tests.{le-leb, lt-leb}
 use Rattle.questions.specs.Questions.{known?}
-use Rattle.questions.proofs.All.{all-on, all-out, all-done}
+use Rattle.surface.proofs.All.{all-on, all-out, all-done}
 use Rattle.questions.proofs.labels_known.Statement.{statement}
 use Rattle.questions.proofs.labels_known.Tie as tie
 
