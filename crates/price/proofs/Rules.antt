@@ -1,4 +1,4 @@
--- The rules of a price sheet: the test decides them, and the turns of the loop that tests whether the upper volumes rise. Assumes nothing.
+-- The rules of a price sheet: the test decides them, and the turns of the loops that test upper volumes and prices. Assumes nothing.
 use Prim.Native.Nat.{ℕ, zero, suc, _+_, _-_, _≤_, _<_}
 use mathlib.Core.Path.{_≡_, refl, sym, ap, _∙_, subst}
 use mathlib.Core.Logic.{_↔_}
@@ -11,7 +11,7 @@ use lib.ListN.{length, getD, drop, drop-of-length-le}
 use lib.Seq.{drop-cons}
 use borrow.Author.Tests.{eqb-true, leb-true, ltb-true, eq-eqb, ne-eqb, le-leb, lt-leb, lt-ltb, le-ltb}
 use Rattle.surface.proofs.Bools.{both, join}
-use Rattle.surface.proofs.All.{all-at, at-all}
+use Rattle.surface.proofs.All.{all-at, at-all, all-on, all-out, all-done}
 use Rattle.price.specs.Tariff.{rises, rising?, capped?, tariff?, Tariff}
 
 -- ---- rising, place by place
@@ -38,6 +38,9 @@ at-rising [] h = refl
 at-rising (v ∷ l) h = at-rises v l (λ k i. subst (λ (j : ℕ). getD (v ∷ l) k 0 < getD (v ∷ l) j 0) (add-one k) (h k (omega arith)))
 
 -- ---- the rules
+
+abbrev cap? : ℕ → Bool
+cap? p = leb p 100000
 
 module _ (us ps : List ℕ) where
   abbrev matching : Bool
@@ -89,17 +92,17 @@ module _ (us ps : List ℕ) where
         few = t .at-most-eight;
         one-fewer = t .matches;
         rising = rising-at us (t .risen);
-        capped = λ k i. leb-true (getD ps k 0) 100000 (all-at (λ (p : ℕ). leb p 100000) 0 ps (t .capped) k i);
+        capped = λ k i. leb-true (getD ps k 0) 100000 (all-at cap? 0 ps (t .capped) k i);
       }
 
   pub tariff-iff : (tariff? us ps ≡ true) ↔ Tariff us ps
   tariff-iff = (
     is-tariff,
     λ h. by-rules (eq-eqb (length us + 1) (length ps) (h .one-fewer)) (le-leb (length ps) 8 (h .few)) (at-rising us (h .rising))
-        (at-all (λ (p : ℕ). leb p 100000) 0 ps (λ k i. le-leb (getD ps k 0) 100000 (h .capped k i))),
+        (at-all cap? 0 ps (λ k i. le-leb (getD ps k 0) 100000 (h .capped k i))),
   )
 
--- ---- the loop: `last` is the value before the place k
+-- ---- the loop that tests upper volumes: `last` is the value before the place k
 
 pub rising-none : (us : List ℕ) → length us ≡ 0 → rising? us ≡ true
 unfolding rising?
@@ -125,3 +128,16 @@ module _ (us : List ℕ) where
   pub rising-done : (last k : ℕ) → length us ≤ k → rises last (drop k us) ≡ true
   unfolding rises
   rising-done last k h = ap (rises last) (drop-of-length-le us h)
+
+-- ---- the loop that tests the prices
+
+module _ (ps : List ℕ) where
+  module _ (k : ℕ) (h : k < length ps) where
+    pub capped-on : getD ps k 0 ≤ 100000 → capped? (drop k ps) ≡ capped? (drop (k + 1) ps)
+    capped-on l = all-on cap? 0 ps k h (le-leb (getD ps k 0) 100000 l)
+
+    pub capped-out : 100000 < getD ps k 0 → capped? (drop k ps) ≡ false
+    capped-out l = all-out cap? 0 ps k h (lt-leb (getD ps k 0) 100000 l)
+
+  pub capped-done : (k : ℕ) → length ps ≤ k → capped? (drop k ps) ≡ true
+  capped-done = all-done cap? ps

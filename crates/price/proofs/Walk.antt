@@ -2,14 +2,26 @@
 use Prim.Native.Nat.{ℕ, _+_, _-_, _*_, _≤_, _<_, min}
 use mathlib.Core.Path.{_≡_, sym, ap, _∙_}
 use mathlib.Core.List.{List}
-use native.Mathlib.Nat.{mul-le-mul-right, add-assoc}
+use native.Mathlib.Nat.{mul-le-mul, mul-le-mul-right, add-assoc}
 use native.Mathlib.Numerals.{add-one}
 use native.Mathlib.Omega.{arith}
 use lib.ListN.{length, getD, drop, drop-of-length-le}
 use lib.Seq.{drop-cons}
+use mir.Syntax.{w64}
+use mir.Val.{Fits}
 use Rattle.price.specs.Tariff.{Tariff}
 use Rattle.price.specs.Stages.{byCubes}
 use Rattle.price.proofs.Steps.{clipped}
+
+-- ---- what is computed fits: no price is above 100,000, and no more than 2 ^ 33 cubes are counted
+
+pub product-fits : (p x : ℕ) → p ≤ 100000 → x ≤ 8589934592 → Fits w64 (p * x)
+product-fits p x h l = let m = mul-le-mul h l in omega arith
+
+pub sum-fits : (sum lower p x : ℕ) → sum ≤ 100000 * lower → p ≤ 100000 → lower + x ≤ 8589934592 → Fits w64 (sum + p * x)
+sum-fits sum lower p x f h l = let m : p * x ≤ 100000 * x = mul-le-mul-right x h in omega arith
+
+-- ---- the turns
 
 module _ (n : ℕ) (us ps : List ℕ) where
   -- `sum` is the price of the cubes below `lower`; the steps from k on are still to be counted
@@ -24,15 +36,12 @@ module _ (n : ℕ) (us ps : List ℕ) where
   nothing-yet = record { bounded = omega arith; inside = omega arith; next = λ l. omega arith; few = omega arith; total = omega arith }
 
   module _ (s : Tariff us ps) (sum lower k : ℕ) (w : Walking sum lower k) where
-    pub last-fits : getD ps k 0 * (n - lower) ≤ 100000 * (n - lower)
-    last-fits = mul-le-mul-right (n - lower) (s .capped k (omega (arith, s .one-fewer, w .bounded)))
+    pub cap : getD ps k 0 ≤ 100000
+    cap = s .capped k (omega (arith, s .one-fewer, w .bounded))
 
     module _ (h : k < length us) (reach : ℕ) (e : reach ≡ min n (getD us k 0)) where
       pub forward : lower ≤ reach
       forward = let l = w .next h in omega (arith, w .inside)
-
-      pub step-fits : getD ps k 0 * (reach - lower) ≤ 100000 * (reach - lower)
-      step-fits = mul-le-mul-right (reach - lower) (s .capped k (omega (arith, s .one-fewer)))
 
       opened : byCubes n lower (drop k us) (drop k ps) ≡ getD ps k 0 * (reach - lower) + byCubes n reach (drop (k + 1) us) (drop (k + 1) ps)
       unfolding byCubes
@@ -48,7 +57,7 @@ module _ (n : ℕ) (us ps : List ℕ) where
         bounded = omega arith;
         inside = omega arith;
         next = λ l. let r = s .rising k l in omega arith;
-        few = let f = step-fits in let g = forward in omega (arith, w .few);
+        few = let f : getD ps k 0 * (reach - lower) ≤ 100000 * (reach - lower) = mul-le-mul-right (reach - lower) cap in let g = forward in omega (arith, w .few);
         total = add-assoc sum (getD ps k 0 * (reach - lower)) (byCubes n reach (drop (k + 1) us) (drop (k + 1) ps)) ∙ ap (λ (x : ℕ). sum + x) (sym opened) ∙ w .total;
       }
 

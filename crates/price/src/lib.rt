@@ -123,10 +123,10 @@ pub fn price(
     match checking::validate(points, corners, labels, work) {
         Verdict::Accepted(quality, volume) => {
             if !units::on_units(points) {
-                return Quote::Refused(Refusal::Question(47));
+                return Quote::Refused(Refusal::Question(47)); // a coordinate
             }
             if !is_tariff(uppers, prices) {
-                return Quote::Refused(Refusal::Question(47));
+                return Quote::Refused(Refusal::Question(47)); // the sheet
             }
             let cubes = started_cubes(volume::exact(points, corners));
             Quote::Price(cost(cubes, uppers, prices))

@@ -1,13 +1,11 @@
 -- `price::capped` meets its contract: at the loop's head the prices from k on decide. Assumes nothing.
-use Prim.Native.Nat.{ℕ, _≤_, _-_}
+use Prim.Native.Nat.{_≤_, _-_}
 use mathlib.Core.Path.{_≡_, refl, sym, _∙_}
-use lib.Dec.{leb}
 use lib.ListN.{length, drop}
 use native.Mathlib.Omega.{arith}
 use borrow.Author.Needs.{needs}
-use borrow.Author.Tests.{le-leb, lt-leb}
-use Rattle.surface.proofs.All.{all-on, all-out, all-done}
 use Rattle.price.specs.Tariff.{capped?}
+use Rattle.price.proofs.Rules.{capped-on, capped-out, capped-done}
 use Rattle.price.proofs.capped.Statement.{statement}
 use Rattle.price.proofs.capped.Tie as tie
 
@@ -29,7 +27,7 @@ shared-slice-read-price c = search needs
 returns : tie.Need-returns Inv-loop μ-loop
 returns c =
     let l = c .before .before in
-    sym (l .before .loop .inv .1 ∙ all-out (λ (p : ℕ). leb p 100000) 0 _ _ (l .loop-test .taken) (lt-leb _ 100000 (c .if1 .taken)))
+    sym (l .before .loop .inv .1 ∙ capped-out _ _ (l .loop-test .taken) (omega arith))
 
 add-k : tie.Need-add-k Inv-loop μ-loop
 add-k c = search needs
@@ -40,10 +38,10 @@ loop-less c = search needs
 loop-again : tie.Need-loop-again Inv-loop μ-loop
 loop-again c =
     let l = c .before .before in
-    (search needs, l .before .loop .inv .1 ∙ all-on (λ (p : ℕ). leb p 100000) 0 _ _ (l .loop-test .taken) (le-leb _ 100000 (c .if1 .left)))
+    (search needs, l .before .loop .inv .1 ∙ capped-on _ _ (l .loop-test .taken) (omega arith))
 
 returns-2 : tie.Need-returns-2 Inv-loop μ-loop
-returns-2 c = sym (c .before .loop .inv .1 ∙ all-done (λ (p : ℕ). leb p 100000) _ _ (c .loop-test .left))
+returns-2 c = sym (c .before .loop .inv .1 ∙ capped-done _ _ (c .loop-test .left))
 
 pub capped-spec : {M : Type 1} → statement M
 capped-spec =

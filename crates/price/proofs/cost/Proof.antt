@@ -5,7 +5,7 @@ use lib.ListN.{length, getD}
 use denote.Ref.{now}
 use borrow.Author.Needs.{needs}
 use Rattle.price.specs.Stages.{Costable}
-use Rattle.price.proofs.Walk.{Walking, nothing-yet, last-fits, forward, step-fits, walked, ended}
+use Rattle.price.proofs.Walk.{product-fits, sum-fits, Walking, nothing-yet, cap, forward, walked, ended}
 use Rattle.price.proofs.cost.Statement.{statement}
 use Rattle.price.proofs.cost.Tie as tie
 
@@ -45,9 +45,8 @@ begun c = loop c .before .before .before
 ahead : (c : tie.After-shared-slice-known4 Inv-loop μ-loop) → loop c .loop .lower ≤ c .before .lesser .result
 ahead c = forward _ _ _ (loop c .loop .inv .0 .tariff) _ _ _ (loop c .loop .inv .1) (c .before .before .before .loop-test .taken) _ (c .before .lesser .ensures)
 
-fits : (c : tie.After-shared-slice-known4 Inv-loop μ-loop)
-    → getD (now (begun c .args .prices)) (loop c .loop .k) 0 * (c .before .lesser .result - loop c .loop .lower) ≤ 100000 * (c .before .lesser .result - loop c .loop .lower)
-fits c = step-fits _ _ _ (loop c .loop .inv .0 .tariff) _ _ _ (loop c .loop .inv .1) (c .before .before .before .loop-test .taken) _ (c .before .lesser .ensures)
+cheap : (c : tie.After-shared-slice-known4 Inv-loop μ-loop) → getD (now (begun c .args .prices)) (loop c .loop .k) 0 ≤ 100000
+cheap c = cap _ _ _ (loop c .loop .inv .0 .tariff) _ _ _ (loop c .loop .inv .1)
 
 next : (c : tie.After-shared-slice-known4 Inv-loop μ-loop)
     → Walking (begun c .args .cubes) (now (begun c .args .uppers)) (now (begun c .args .prices))
@@ -58,10 +57,10 @@ sub-sum : tie.Need-sub-sum Inv-loop μ-loop
 sub-sum c = ahead c
 
 mul-sum-2 : tie.Need-mul-sum-2 Inv-loop μ-loop
-mul-sum-2 c = let n = next c in omega (arith, n .few, n .inside, loop c .loop .inv .0 .few)
+mul-sum-2 c = product-fits _ _ (cheap c) (omega (arith, next c .inside, loop c .loop .inv .0 .few))
 
 add-sum : tie.Need-add-sum Inv-loop μ-loop
-add-sum c = let n = next c in omega (arith, n .few, n .inside, loop c .loop .inv .0 .few)
+add-sum c = sum-fits _ _ _ _ (loop c .loop .inv .1 .few) (cheap c) (omega (arith, ahead c, next c .inside, loop c .loop .inv .0 .few))
 
 add-k : tie.Need-add-k Inv-loop μ-loop
 add-k c = search needs
@@ -81,19 +80,17 @@ shared-slice-read-result c =
     omega (arith, i .0 .tariff .one-fewer, i .1 .bounded)
 
 sub-result : tie.Need-sub-result Inv-loop μ-loop
-sub-result c = c .before .before .loop .inv .1 .inside
+sub-result c = omega (arith, c .before .before .loop .inv .1 .inside)
 
 mul-result-2 : tie.Need-mul-result-2 Inv-loop μ-loop
 mul-result-2 c =
     let i = c .before .before .loop .inv in
-    let f = last-fits _ _ _ (i .0 .tariff) _ _ _ (i .1) in
-    omega (arith, i .0 .few)
+    product-fits _ _ (cap _ _ _ (i .0 .tariff) _ _ _ (i .1)) (omega (arith, i .0 .few, i .1 .inside))
 
 add-result : tie.Need-add-result Inv-loop μ-loop
 add-result c =
     let i = c .before .before .loop .inv in
-    let f = last-fits _ _ _ (i .0 .tariff) _ _ _ (i .1) in
-    omega (arith, i .0 .few, i .1 .few, i .1 .inside)
+    sum-fits _ _ _ _ (i .1 .few) (cap _ _ _ (i .0 .tariff) _ _ _ (i .1)) (omega (arith, i .0 .few, i .1 .inside))
 
 returns : tie.Need-returns Inv-loop μ-loop
 returns c =

@@ -1,5 +1,6 @@
 -- `price::is_tariff` meets its contract: each way out is a rule's. Assumes nothing.
 use mathlib.Core.Path.{refl, sym, _∙_}
+use native.Mathlib.Omega.{arith}
 use borrow.Author.Needs.{needs}
 use borrow.Author.Tests.{not-true, not-false}
 use Rattle.price.proofs.Rules.{no-price, unmatched, too-many, asked}
@@ -16,7 +17,7 @@ returns-2 : tie.Need-returns-2
 returns-2 c = unmatched _ _ (c .before .if1 .left) (c .if2 .taken)
 
 returns-3 : tie.Need-returns-3
-returns-3 c = too-many _ _ (c .before .before .if1 .left) (search needs) (c .if3 .taken)
+returns-3 c = too-many _ _ (c .before .before .if1 .left) (search needs) (omega arith)
 
 rising-requires : tie.Need-rising-requires
 rising-requires c κs = search needs
@@ -24,7 +25,7 @@ rising-requires c κs = search needs
 returns-4 : tie.Need-returns-4
 returns-4 c =
     let e = c .before .before in
-    asked _ _ (e .before .before .if1 .left) (search needs) (e .if3 .left) (sym (c .before .rising .ensures) ∙ not-true _ (c .if4 .taken)) refl
+    asked _ _ (e .before .before .if1 .left) (search needs) (omega arith) (sym (c .before .rising .ensures) ∙ not-true _ (c .if4 .taken)) refl
 
 capped-requires : tie.Need-capped-requires
 capped-requires c κs = search needs
@@ -33,7 +34,7 @@ returns-5 : tie.Need-returns-5
 returns-5 c =
     let r = c .before .before in
     let e = r .before in
-    asked _ _ (e .before .before .if1 .left) (search needs) (e .if3 .left) (sym (r .rising .ensures) ∙ not-false _ (c .before .if4 .left)) (sym (c .capped .ensures))
+    asked _ _ (e .before .before .if1 .left) (search needs) (omega arith) (sym (r .rising .ensures) ∙ not-false _ (c .before .if4 .left)) (sym (c .capped .ensures))
 
 pub is-tariff-spec : {M : Type 1} → statement M
 is-tariff-spec =

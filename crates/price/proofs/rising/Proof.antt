@@ -31,7 +31,7 @@ shared-slice-read-upper : tie.Need-shared-slice-read-upper Inv-loop μ-loop
 shared-slice-read-upper c = search needs
 
 returns-2 : tie.Need-returns-2 Inv-loop μ-loop
-returns-2 c = let l = c .before .before in sym (l .before .loop .inv .1 ∙ rising-out _ _ _ (l .loop-test .taken) (c .if2 .taken))
+returns-2 c = let l = c .before .before in sym (l .before .loop .inv .1 ∙ rising-out _ _ _ (l .loop-test .taken) (omega arith))
 
 add-k : tie.Need-add-k Inv-loop μ-loop
 add-k c = search needs
@@ -40,7 +40,7 @@ loop-less : tie.Need-loop-less Inv-loop μ-loop
 loop-less c = search needs
 
 loop-again : tie.Need-loop-again Inv-loop μ-loop
-loop-again c = let l = c .before .before in (search needs, l .before .loop .inv .1 ∙ rising-on _ _ _ (l .loop-test .taken) (c .if2 .left))
+loop-again c = let l = c .before .before in (search needs, l .before .loop .inv .1 ∙ rising-on _ _ _ (l .loop-test .taken) (omega arith))
 
 returns-3 : tie.Need-returns-3 Inv-loop μ-loop
 returns-3 c = sym (c .before .loop .inv .1 ∙ rising-done _ _ _ (c .loop-test .left))
