@@ -58,4 +58,18 @@ uint32_t lanovishel_improve(double *points, size_t point_values,
                             const double levels[2], const double bounds[6],
                             uint32_t rounds, uint32_t answer[3], uint32_t place[2]);
 
+/* The price of a surface, in cents, from its exact volume: what lanovishel_check refuses has none, and every
+ * coordinate is in whole 1/1024 within 32 either way, those of unused points too. The price sheet: one to eight
+ * steps, each with a price of at most 100,000 for each started unit cube (of side 1) within it, and an upper volume
+ * in unit cubes for each but the last, which has no end; upper volumes rise strictly. A step begins where the one
+ * before it ends, the first at 0. Where the call is accepted, cents has the sum over the steps, 0 for a volume of 0
+ * or less; else cents is 0. */
+uint32_t lanovishel_price(const double *points, size_t point_values,
+                          const uint32_t *corners, size_t corner_numbers,
+                          const uint8_t *labels, size_t label_count,
+                          uint32_t *work, size_t work_words,
+                          const uint64_t *uppers, size_t upper_count,
+                          const uint64_t *prices, size_t price_count,
+                          uint64_t cents[1], uint32_t place[2]);
+
 #endif

@@ -1,20 +1,23 @@
-//! Prints the tables of docs/FIGURES.md: `cargo run --release -p bench -- [root] [check] [closing] [edit] [improve]`.
+//! Prints the tables of docs/FIGURES.md:
+//! `cargo run --release -p bench -- [root] [check] [closing] [edit] [improve] [price]`.
 //! Each table sets ours and theirs side by side, measured in this one run; where the original's
 //! source was not there, its times are those of doing nothing.
 mod check;
 mod closing;
 mod edit;
 mod improve;
+mod price;
 mod root;
 mod table;
 
 /// A table's name and what prints it.
-const TABLES: [(&str, fn()); 5] = [
+const TABLES: [(&str, fn()); 6] = [
     ("root", root::table),
     ("check", check::table),
     ("closing", closing::table),
     ("edit", edit::table),
     ("improve", improve::table),
+    ("price", price::table),
 ];
 
 fn main() {

@@ -27,8 +27,14 @@ pub struct Call {
     pub bounds: [f64; 6],
     /// How many rounds of improving.
     pub rounds: u32,
+    /// The price sheet's upper volumes, in unit cubes.
+    pub uppers: Vec<u64>,
+    /// The price sheet's prices, one a step.
+    pub prices: Vec<u64>,
     /// Quality and volume.
     pub numbers: [f64; 2],
+    /// The price.
+    pub cents: [u64; 1],
     /// What is left, and how many.
     pub answer: [u32; 3],
     /// Where the surface is open.
@@ -43,6 +49,7 @@ impl Call {
             surface,
             work: filling(work_words),
             numbers: [f64::NAN, -1.5],
+            cents: [12],
             answer: [7, 8, 9],
             place: [10, 11],
             ..Self::default()
@@ -77,7 +84,10 @@ impl Call {
         same("journal", &self.journal, &wanted.journal)?;
         same("coefficients", &self.coefficients, &wanted.coefficients)?;
         same("powers", &self.powers, &wanted.powers)?;
+        same("uppers", &self.uppers, &wanted.uppers)?;
+        same("prices", &self.prices, &wanted.prices)?;
         same("numbers", &self.numbers, &wanted.numbers)?;
+        same("cents", &self.cents, &wanted.cents)?;
         same("answer", &self.answer, &wanted.answer)
     }
 }
@@ -101,6 +111,12 @@ impl Bits for u8 {
 impl Bits for u32 {
     fn bits(self) -> u64 {
         self.into()
+    }
+}
+
+impl Bits for u64 {
+    fn bits(self) -> u64 {
+        self
     }
 }
 

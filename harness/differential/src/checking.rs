@@ -18,7 +18,7 @@ pub fn model(before: &Call) -> Call {
 }
 
 /// Quality and volume, or the refusal.
-fn measured(surface: &Surface, work_words: usize) -> Result<[f64; 2], No> {
+pub fn measured(surface: &Surface, work_words: usize) -> Result<[f64; 2], No> {
     questions::first(surface, work_words)?;
     let (points, triangles) = (surface.points(), surface.triangles());
     if triangles.is_empty() {

@@ -1,5 +1,5 @@
 //! Comparison by running: Lanovishel beside the original and beside models that are written
-//! from the specification (document 01) alone.
+//! from the specification (documents 01 and 02) alone.
 //!
 //! The tests are the comparison. `LANOVISHEL_RUNS` sets how many random cases each takes, and
 //! `LANOVISHEL_SEED` the seed of the first; a failure names the seed of its case.
@@ -11,6 +11,7 @@ pub mod editing;
 pub mod finder;
 pub mod history;
 pub mod improving;
+pub mod price;
 pub mod questions;
 pub mod random;
 pub mod roots;

@@ -14,6 +14,11 @@ pub const MOST: i64 = 32_768;
 /// A point in units.
 pub type Point = [i64; 3];
 
+/// The corners of the range.
+pub fn range_corners() -> impl Iterator<Item = Point> {
+    (0..8).map(|n| [0, 1, 2].map(|axis| if n >> axis & 1 == 0 { -MOST } else { MOST }))
+}
+
 /// The points in units, where every value is a whole number of them and within the range.
 pub fn units(points: &[f64]) -> Option<Vec<Point>> {
     points

@@ -1,4 +1,5 @@
-//! Random surfaces on whole units, of 4 to 32,768 triangles, and other listings of them.
+//! Surfaces on whole units: random ones of 4 to 32,768 triangles, other listings of them, and some
+//! whose volume is known.
 use crate::{
     questions,
     random::Random,
@@ -20,15 +21,50 @@ const DRAWS: u64 = 100;
 /// drawn again.
 pub fn any(random: &mut Random) -> (Surface, u64) {
     let triangles = size(random);
+    any_of(random, triangles)
+}
+
+/// The same, of so many triangles: an even number from 4 on.
+pub fn any_of(random: &mut Random, triangles: usize) -> (Surface, u64) {
     for again in 0..DRAWS {
         let mut surface = drawn(random, triangles);
         if turned_out(&mut surface) {
             return (surface, again);
         }
     }
-    let mut surface = plain(triangles);
-    surface.points = lent(&fitted(&surface, [RANGE; 3])).concat();
-    (surface, DRAWS)
+    (stretched(plain(triangles)), DRAWS)
+}
+
+/// A shape from -1 to 1, stretched to the whole range.
+pub fn stretched(mut shape: Surface) -> Surface {
+    shape.points = lent(&fitted(&shape, [RANGE; 3])).concat();
+    shape
+}
+
+/// A box with its lowest corner at `low`, each wall of `cells` times `cells` squares: six is six
+/// times the product of the sides.
+pub fn boxed(low: Point, sides: Point, cells: i64) -> Surface {
+    let mut shape = walled_box(cells as usize);
+    let node = |x: f64| ((x + 1.0) / 2.0 * cells as f64).round() as i64;
+    let place = |p: [f64; 3]| std::array::from_fn(|k| low[k] + node(p[k]) * sides[k] / cells);
+    let points: Vec<Point> = shape.points().into_iter().map(place).collect();
+    shape.points = lent(&points).concat();
+    shape
+}
+
+/// A tetrahedron with three legs along the axes, from 0: six is the product of the legs.
+pub fn with_legs(legs: Point) -> Surface {
+    let mut shape = tetrahedron();
+    shape.scale(legs.map(|leg| leg as f64 / 1024.0));
+    shape
+}
+
+/// A flat tetrahedron beside an unused first point: six is 0. As it is listed here, checking finds
+/// its volume above 0.
+pub fn flat() -> Surface {
+    let points = [[0, 1, -1], [-1, 1, 0], [1, 0, 0], [0, -1, 0], [-1, 0, 0]];
+    let triangles = [[2, 3, 4], [1, 4, 3], [1, 3, 2], [1, 2, 4]];
+    Surface::new(&lent(&points), &triangles)
 }
 
 /// How many triangles: an even number, each doubling as often as any other, at times an end.
@@ -77,7 +113,7 @@ pub fn listed_anew(surface: &Surface, random: &mut Random) -> Surface {
 
 /// Lists the triangles by their shares of the volume, so that no order has larger partial sums. Labels
 /// stay where they are.
-fn list_by_falling_share(surface: &mut Surface) {
+pub fn list_by_falling_share(surface: &mut Surface) {
     let points = units(&surface.points).unwrap();
     let mut triangles = surface.triangles();
     triangles.sort_by_cached_key(|&triangle| Reverse(six(&points, &[triangle], points[0])));

@@ -1,7 +1,7 @@
 //! Refusals by their names: docs/NUMBERS.md beside the Rust crate, and small open surfaces whose
 //! place is seen by looking.
 use differential::surfaces::{Surface, pillow, tetrahedron, touching};
-use lanovishel::{Field, Refusal};
+use lanovishel::{Field, Refusal, Tariff};
 
 const NUMBERS: &str = include_str!("../../../docs/NUMBERS.md");
 
@@ -10,8 +10,34 @@ fn check(surface: Surface) -> Refusal {
     check_with(&mut work, surface)
 }
 
+/// Why checking refuses a surface, and pricing too.
 fn check_with(work: &mut [u32], surface: Surface) -> Refusal {
-    lanovishel::check(&surface.points, &surface.corners, &surface.labels, work).unwrap_err()
+    let Surface {
+        points,
+        corners,
+        labels,
+    } = &surface;
+    let refusal = lanovishel::check(points, corners, labels, work).unwrap_err();
+    assert_eq!(price_with(work, &surface, &[1]), refusal);
+    refusal
+}
+
+fn price(surface: Surface, prices: &[u64]) -> Refusal {
+    let mut work = vec![1; surface.work_words()];
+    price_with(&mut work, &surface, prices)
+}
+
+fn price_with(work: &mut [u32], surface: &Surface, prices: &[u64]) -> Refusal {
+    let tariff = Tariff {
+        uppers: &[],
+        prices,
+    };
+    let Surface {
+        points,
+        corners,
+        labels,
+    } = surface;
+    lanovishel::price(points, corners, labels, work, &tariff).unwrap_err()
 }
 
 fn edit(mut surface: Surface, entries: &[u32]) -> Refusal {
@@ -71,6 +97,7 @@ fn each_has_its_name() {
         check(but(|s| s.double(0))),
         check(but(|s| s.remove(3))),
         check(touching()),
+        price(tetrahedron(), &[]),
     ];
     let rows: Vec<&str> = NUMBERS
         .lines()
@@ -86,9 +113,10 @@ fn each_has_its_name() {
     }
 }
 
-/// Holds what each of the three functions says of a surface to one refusal.
+/// Holds what each of the four functions says of a surface to one refusal.
 fn assert_all(surface: Surface, refusal: Refusal) {
     assert_eq!(check(surface.clone()), refusal);
+    assert_eq!(price(surface.clone(), &[1]), refusal);
     assert_eq!(edit(surface.clone(), &[]), refusal);
     assert_eq!(improve(surface, &[1, 0, 0], 1), refusal);
 }

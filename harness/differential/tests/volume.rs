@@ -5,8 +5,8 @@ use differential::{
     checking::{self, check},
     random::Random,
     seeded_cases,
-    surfaces::{Surface, tetrahedron, walled_box},
-    volume::{self, MOST, Part, Point, six, six_from_three, units},
+    surfaces::{Surface, tetrahedron},
+    volume::{self, MOST, Part, Point, range_corners, six, six_from_three, units},
     whole,
 };
 
@@ -190,9 +190,8 @@ fn case(seed: u64, random: &mut Random, table: &mut Table) -> Result<(), String>
     table.difference(&name, &first, &second)
 }
 
-/// What checking answers, as the model and the original have it, of points in units.
-fn answered(points: &[Point], triangles: &[[u32; 3]]) -> Call {
-    let surface = Surface::new(&whole::lent(points), triangles);
+/// What checking answers, as the model and the original have it.
+fn answered(surface: Surface) -> Call {
     let work_words = surface.work_words();
     let call = Call::new(surface, work_words);
     let wanted = checking::model(&call);
@@ -213,39 +212,30 @@ fn a_64th_of_the_bound() {
     ];
     let triangles = [[2, 3, 4], [1, 4, 3], [1, 3, 2], [1, 2, 4]];
     let six = six(&points, &triangles, points[0]);
-    let [_, volume] = answered(&points, &triangles).numbers;
+    let surface = Surface::new(&whole::lent(&points), &triangles);
+    let [_, volume] = answered(surface).numbers;
     let error = volume::error(volume, six, 4).unwrap();
     assert_eq!(error.to_string(), "0.015625000");
 }
 
-/// A flat tetrahedron beside an unused first point has the exact volume 0. Whether what is reported
-/// is above 0 depends on the listing: so does whether it is accepted.
+/// A flat surface has the exact volume 0. Whether what is reported is above 0 depends on the
+/// listing: so does whether it is accepted.
 #[test]
 fn a_flat_surface() {
-    let points = [[0, 1, -1], [-1, 1, 0], [1, 0, 0], [0, -1, 0], [-1, 0, 0]];
-    let mut triangles = [[2, 3, 4], [1, 4, 3], [1, 3, 2], [1, 2, 4]];
-    assert_eq!(six(&points, &triangles, points[0]), 0);
-    let first = answered(&points, &triangles);
+    let mut surface = whole::flat();
+    let points = units(&surface.points).unwrap();
+    assert_eq!(six(&points, &surface.triangles(), points[0]), 0);
+    let first = answered(surface.clone());
     let error = volume::error(first.numbers[1], 0, 4).unwrap();
     assert!(first.number == 0 && error.size > 0 && error.fits());
-    triangles.swap(2, 3);
-    assert_eq!(answered(&points, &triangles).number, 8);
-}
-
-/// A box with its lowest corner at `low`, each wall of `cells` times `cells` squares.
-fn boxed(low: Point, sides: Point, cells: i64) -> (Vec<Point>, Vec<[u32; 3]>) {
-    let shape = walled_box(cells as usize);
-    let node = |x: f64| ((x + 1.0) / 2.0 * cells as f64).round() as i64;
-    let points = shape.points().into_iter();
-    let place = |p: [f64; 3]| std::array::from_fn(|k| low[k] + node(p[k]) * sides[k] / cells);
-    (points.map(place).collect(), shape.triangles())
+    // The last two triangles exchanged.
+    surface.corners[6..].rotate_left(3);
+    assert_eq!(answered(surface).number, 8);
 }
 
 /// The corners of the range, its middle, and others.
 fn origins() -> impl Iterator<Item = Point> {
-    let ends = [-MOST, MOST];
-    let corners = (0..8).map(move |n| [ends[n & 1], ends[n >> 1 & 1], ends[n >> 2]]);
-    corners.chain([[0; 3], [1, -2, 3], [-17_001, 32_767, 4_099]])
+    range_corners().chain([[0; 3], [1, -2, 3], [-17_001, 32_767, 4_099]])
 }
 
 #[test]
@@ -272,7 +262,9 @@ fn boxes() {
         ([-MOST; 3], [2 * MOST; 3], 16),
     ];
     for (low, sides, cells) in boxes {
-        let (points, mut triangles) = boxed(low, sides, cells);
+        let surface = whole::boxed(low, sides, cells);
+        let points = units(&surface.points).unwrap();
+        let mut triangles = surface.triangles();
         let wanted = 6 * i128::from(sides[0] * sides[1] * sides[2]);
         for origin in origins() {
             assert_eq!(six(&points, &triangles, origin), wanted);

@@ -5,6 +5,7 @@
 mod check;
 mod edit;
 mod improve;
+mod price;
 mod refusal;
 mod root;
 
@@ -13,5 +14,6 @@ pub mod raw;
 pub use check::{Measured, check, work_words};
 pub use edit::{Edited, edit};
 pub use improve::{Field, Improved, improve};
+pub use price::{Tariff, price};
 pub use refusal::Refusal;
 pub use root::sqrt;

@@ -61,4 +61,22 @@ unsafe extern "C" {
         answer: *mut [u32; 3],
         place: *mut [u32; 2],
     ) -> u32;
+
+    /// The price of a surface; see [`crate::price`].
+    pub fn lanovishel_price(
+        points: *const f64,
+        point_values: usize,
+        corners: *const u32,
+        corner_numbers: usize,
+        labels: *const u8,
+        label_count: usize,
+        work: *mut u32,
+        work_words: usize,
+        uppers: *const u64,
+        upper_count: usize,
+        prices: *const u64,
+        price_count: usize,
+        cents: *mut [u64; 1],
+        place: *mut [u32; 2],
+    ) -> u32;
 }

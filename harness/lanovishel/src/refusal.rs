@@ -85,6 +85,7 @@ refusals! {
         /// The smallest such corner.
         corner: 0
     } "the triangles around corner {corner} are more than one ring"
+    47 NoPrice "a coordinate is not in whole 1/1024 within ±32, or the price sheet is not as it must be"
 }
 
 impl Refusal {
