@@ -1,4 +1,4 @@
--- The cases of a call: what checking refused, question 47, and the price; and what a price says of the call. Assumes nothing.
+-- The cases of a call: what checking refused, question 47, and the price. Assumes nothing.
 use Prim.Native.Nat.{ℕ}
 use mathlib.Core.Path.{_≡_, refl, sym, ap, _∙_}
 use mathlib.Core.Bool.{Bool, true, false, _&&_, cond, false≢true}
@@ -6,7 +6,6 @@ use mathlib.Core.List.{List}
 use native.Mathlib.Omega.{arith}
 use lib.Ieee.{Float}
 use Rattle.questions.specs.Questions.{workAfter}
-use Rattle.questions.specs.Refusal.{refusalNumber}
 use Rattle.questions.specs.declared.Refusal.{Refusal}
 use Rattle.questions.specs.declared.Refusal.the-variants.{Question}
 use Rattle.checking.specs.Verdict.{numberOf as number}
@@ -76,50 +75,46 @@ module _ (points : List Float) (corners labels work uppers prices : List ℕ) wh
       pub at-price : allOnUnits? points ≡ true → tariff? uppers prices ≡ true → (c : ℕ) → c ≡ surfaceCents points corners uppers prices → Quoted points corners labels work work′ uppers prices (Price c)
       at-price p q c d = record { answer = ap Price d ∙ sym (asked p q); words = words }
 
-  -- ---- a call that has a price: checking accepts, the coordinates are on whole units, the sheet keeps the rules
+  -- ---- what a call comes to
 
-  pub record Sold (c : ℕ) : Type 0 where
+  -- checking accepts, the coordinates are on whole units, and the sheet keeps the rules
+  pub record HasPrice : Type 0 where
     pub quality : Float
     pub volume : Float
     pub accepted : validated points corners labels work ≡ verdict.Accepted quality volume
     pub units : AllOnUnits points
     pub tariff : tariff? uppers prices ≡ true
-    pub cents : c ≡ surfaceCents points corners uppers prices
 
-  pub sold : (c : ℕ) → quoted points corners labels work uppers prices ≡ Price c → Sold c
-  sold c q = go (validated points corners labels work) refl
+  data Ends : Type 0 where
+    by-checking : (why : Refusal) → validated points corners labels work ≡ verdict.Refused why → quoted points corners labels work uppers prices ≡ Refused why → Ends
+    by-47 : quoted points corners labels work uppers prices ≡ Refused (Question 47) → Ends
+    with-price : HasPrice → quoted points corners labels work uppers prices ≡ Price (surfaceCents points corners uppers prices) → Ends
+
+  ends : Ends
+  ends = go (validated points corners labels work) refl
     where
-      tests : (quality volume : Float) → validated points corners labels work ≡ verdict.Accepted quality volume → (a : Bool) → allOnUnits? points ≡ a → (b : Bool) → tariff? uppers prices ≡ b → Sold c
-      tests quality volume e true p true t =
-          let s : Price c ≡ Price (surfaceCents points corners uppers prices) = sym q ∙ by-question quality volume e p t in
-          record { quality = quality; volume = volume; accepted = e; units = all-on-units-iff points .0 p; tariff = t; cents = cc }
-      tests quality volume e true p false t = absurd (no-price (sym (by-question quality volume e p t) ∙ q))
-      tests quality volume e false p b t = absurd (no-price (sym (by-question quality volume e p t) ∙ q))
+      tests : (quality volume : Float) → validated points corners labels work ≡ verdict.Accepted quality volume → (a : Bool) → allOnUnits? points ≡ a → (b : Bool) → tariff? uppers prices ≡ b → Ends
+      tests quality volume e true p true t = with-price (record { quality = quality; volume = volume; accepted = e; units = all-on-units-iff points .0 p; tariff = t }) (by-question quality volume e p t)
+      tests quality volume e true p false t = by-47 (by-question quality volume e p t)
+      tests quality volume e false p b t = by-47 (by-question quality volume e p t)
 
-      go : (v : Verdict) → validated points corners labels work ≡ v → Sold c
+      go : (v : Verdict) → validated points corners labels work ≡ v → Ends
       go (verdict.Accepted quality volume) e = tests quality volume e (allOnUnits? points) refl (tariff? uppers prices) refl
-      go (verdict.Refused why) e = absurd (no-price (sym (by-refusal why e) ∙ q))
+      go (verdict.Refused why) e = by-checking why e (by-refusal why e)
 
-  -- ---- 0 is answered only where there is a price
-
-  refused-by : (why : Refusal) → quoted points corners labels work uppers prices ≡ Refused why → refusalNumber why ≡ 0 → ⊥
-  refused-by why q z = go (validated points corners labels work) refl
+  pub has-price : (c : ℕ) → quoted points corners labels work uppers prices ≡ Price c → HasPrice × (c ≡ surfaceCents points corners uppers prices)
+  has-price c q = go ends
     where
-      not-47 : Refused (Question 47) ≡ Refused why → ⊥
-      not-47 e = let n : 47 ≡ refusalNumber why = ap numberOf e in omega arith
+      go : Ends → HasPrice × (c ≡ surfaceCents points corners uppers prices)
+      go (by-checking why e p) = absurd (no-price (sym p ∙ q))
+      go (by-47 p) = absurd (no-price (sym p ∙ q))
+      go (with-price h p) = let s : Price c ≡ Price (surfaceCents points corners uppers prices) = sym q ∙ p in (h, cc)
 
-      tests : (quality volume : Float) → validated points corners labels work ≡ verdict.Accepted quality volume → (a : Bool) → allOnUnits? points ≡ a → (b : Bool) → tariff? uppers prices ≡ b → ⊥
-      tests quality volume e true p true t = no-price (sym q ∙ by-question quality volume e p t)
-      tests quality volume e true p false t = not-47 (sym (by-question quality volume e p t) ∙ q)
-      tests quality volume e false p b t = not-47 (sym (by-question quality volume e p t) ∙ q)
-
-      go : (v : Verdict) → validated points corners labels work ≡ v → ⊥
-      go (verdict.Accepted quality volume) e = tests quality volume e (allOnUnits? points) refl (tariff? uppers prices) refl
-      go (verdict.Refused told) e = refused-some points corners labels work told e (ap numberOf (sym (by-refusal told e) ∙ q) ∙ z)
-
+  -- 0 is answered only where there is a price
   pub zero-priced : numberOf (quoted points corners labels work uppers prices) ≡ 0 → quoted points corners labels work uppers prices ≡ Price (centsOf (quoted points corners labels work uppers prices))
-  zero-priced z = go (quoted points corners labels work uppers prices) refl
+  zero-priced z = go ends
     where
-      go : (q : Quote) → quoted points corners labels work uppers prices ≡ q → quoted points corners labels work uppers prices ≡ Price (centsOf (quoted points corners labels work uppers prices))
-      go (Price c) e = e ∙ ap (λ (q : Quote). Price (centsOf q)) (sym e)
-      go (Refused why) e = absurd (refused-by why e (ap numberOf (sym e) ∙ z))
+      go : Ends → quoted points corners labels work uppers prices ≡ Price (centsOf (quoted points corners labels work uppers prices))
+      go (by-checking why e p) = absurd (refused-some points corners labels work why e (ap numberOf (sym p) ∙ z))
+      go (by-47 p) = let n : numberOf (Refused (Question 47)) ≡ 0 = ap numberOf (sym p) ∙ z in absurd (omega arith)
+      go (with-price h p) = p ∙ ap (λ (q : Quote). Price (centsOf q)) (sym p)

@@ -1,16 +1,17 @@
 -- The unit cubes that two words start: a unit cube is 3 * 2 ^ 31 of what they count, so the high word decides, with whether the low one is 0. Assumes nothing.
-use Prim.Native.Nat.{ℕ, suc, _+_, _-_, _*_, _/_, _^_, _<_}
+use Prim.Native.Nat.{ℕ, suc, _+_, _-_, _*_, _/_, _<_}
 use mathlib.Core.Path.{_≡_, refl, sym, ap, _∙_}
 use mathlib.Core.Bool.{Bool, true, false, cond, true≢false}
 use native.Mathlib.Omega.{arith}
 use lib.Dec.{T}
-use lib.IntN.{ℤ, pos, negsuc, negℤ, natAbs, _+ℤ_, _*ℤ_}
+use lib.IntN.{ℤ, pos, negsuc, negℤ, natAbs, _+ℤ_}
 use lib.Signed.{mag, ltZ, nonNeg}
 use borrow.Author.Tests.{lt-ltb, le-ltb}
+use Rattle.volume.specs.Exact.{sixIn}
 use Rattle.price.specs.Price.{started, amount}
 
 abbrev value : ℤ → ℕ → ℤ
-value high low = pos (2 ^ 31) *ℤ high +ℤ pos low
+value high low = sixIn (record { high = high; low = low })
 
 -- ---- a high word that is not negative
 

@@ -9,20 +9,21 @@ use lib.Dec.{leb→le}
 use lib.IntN.{ℤ, pos, negsuc}
 use lib.Signed.{_≤ℤ_}
 use lib.Ieee.{Float}
+use Rattle.surface.specs.Triangle.{triangles}
 use Rattle.units.specs.Units.{WholePoint, unitsAt}
 use Rattle.volume.specs.Six.{six}
-use Rattle.surface.specs.Triangle.{triangles}
 use Rattle.volume.specs.Volume.{Balanced, ListedAnew, sixOf}
 use Rattle.volume.proofs.Accepted.{balanced, measurable}
 use Rattle.volume.proofs.Volume.{one-six, six-laws}
 use Rattle.price.specs.Price.{started, steps, amount, cents}
 use Rattle.price.specs.Tariff.{rising?, capped?}
+use Rattle.price.specs.Quote.{surfaceCents}
 use Rattle.price.specs.Laws.{PriceLaws, Costs, QuoteLaws}
 use Rattle.price.specs.Stages.{byCubes}
 use Rattle.price.proofs.Steps.{steps-more, in-cubes, steps-zero, at-most}
 use Rattle.price.proofs.Size.{few-started}
 use Rattle.price.proofs.Rules.{tested}
-use Rattle.price.proofs.Answers.{Sold, sold}
+use Rattle.price.proofs.Answers.{HasPrice, has-price}
 
 -- ---- the price of a volume
 
@@ -65,15 +66,18 @@ module _ (Priced : List Float → (corners uppers prices : List ℕ) → ℕ →
     call : Costs points corners us ps price
     call = costs points corners us ps price c
 
-    case : Sold points corners (call .labels) (call .work) us ps price
-    case = sold points corners (call .labels) (call .work) us ps price (call .quote)
+    case : HasPrice points corners (call .labels) (call .work) us ps
+    case = has-price points corners (call .labels) (call .work) us ps price (call .quote) .0
+
+    is-exact : price ≡ surfaceCents points corners us ps
+    is-exact = has-price points corners (call .labels) (call .work) us ps price (call .quote) .1
 
     is-balanced : Balanced (triangles corners)
     is-balanced = balanced points corners (call .labels) (call .work) (case .quality) (case .volume) (case .accepted)
 
     any-origin : (o : WholePoint) → price ≡ cents (sixOf points corners o) us ps
     any-origin o =
-        case .cents
+        is-exact
         ∙ ap (λ (s : ℤ). cents s us ps) (six-laws .any-origin (unitsAt points) (triangles corners) is-balanced (unitsAt points 0) o)
 
     fits : price ≤ 858993459200000
@@ -81,7 +85,7 @@ module _ (Priced : List Float → (corners uppers prices : List ℕ) → ℕ →
         let t = tested us ps (case .tariff) in
         let v = amount (sixOf points corners (unitsAt points 0)) in
         let few = few-started points corners (measurable points corners (call .labels) (call .work) (case .quality) (case .volume) (case .accepted) (case .units)) in
-        within (started v) price few (le-trans (le-of-eq (case .cents ∙ in-cubes v 0 us ps)) (begins-at-zero (started v) us ps (t .risen) (t .capped)))
+        within (started v) price few (le-trans (le-of-eq (is-exact ∙ in-cubes v 0 us ps)) (begins-at-zero (started v) us ps (t .risen) (t .capped)))
 
   any-listing : {points points′ : List Float} {corners corners′ us ps : List ℕ} {price price′ : ℕ} → Priced points corners us ps price → Priced points′ corners′ us ps price′ → ListedAnew points corners points′ corners′ → price ≡ price′
   any-listing {points} {points′} {us = us} {ps} c c′ a =

@@ -54,8 +54,8 @@ module _ (us ps : List ℕ) where
   by-rules p q r s = λ i. p i && (q i && (r i && s i))
 
   -- by the lengths
-  pub no-price : length ps ≡ 0 → false ≡ tariff? us ps
-  no-price e = sym (by-rules (ne-eqb (length us + 1) (length ps) (λ q. omega arith)) refl refl refl)
+  pub no-steps : length ps ≡ 0 → false ≡ tariff? us ps
+  no-steps e = sym (by-rules (ne-eqb (length us + 1) (length ps) (λ q. omega arith)) refl refl refl)
 
   module _ (some : length ps ≡ 0 → ⊥) where
     pub unmatched : (length us ≡ length ps - 1 → ⊥) → false ≡ tariff? us ps

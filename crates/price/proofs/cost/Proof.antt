@@ -45,8 +45,8 @@ begun c = loop c .before .before .before
 ahead : (c : tie.After-shared-slice-known4 Inv-loop μ-loop) → loop c .loop .lower ≤ c .before .lesser .result
 ahead c = forward _ _ _ (loop c .loop .inv .0 .tariff) _ _ _ (loop c .loop .inv .1) (c .before .before .before .loop-test .taken) _ (c .before .lesser .ensures)
 
-cheap : (c : tie.After-shared-slice-known4 Inv-loop μ-loop) → getD (now (begun c .args .prices)) (loop c .loop .k) 0 ≤ 100000
-cheap c = cap _ _ _ (loop c .loop .inv .0 .tariff) _ _ _ (loop c .loop .inv .1)
+capped : (c : tie.After-shared-slice-known4 Inv-loop μ-loop) → getD (now (begun c .args .prices)) (loop c .loop .k) 0 ≤ 100000
+capped c = cap _ _ _ (loop c .loop .inv .0 .tariff) _ _ _ (loop c .loop .inv .1)
 
 next : (c : tie.After-shared-slice-known4 Inv-loop μ-loop)
     → Walking (begun c .args .cubes) (now (begun c .args .uppers)) (now (begun c .args .prices))
@@ -57,10 +57,10 @@ sub-sum : tie.Need-sub-sum Inv-loop μ-loop
 sub-sum c = ahead c
 
 mul-sum-2 : tie.Need-mul-sum-2 Inv-loop μ-loop
-mul-sum-2 c = product-fits _ _ (cheap c) (omega (arith, next c .inside, loop c .loop .inv .0 .few))
+mul-sum-2 c = product-fits _ _ (capped c) (omega (arith, next c .inside, loop c .loop .inv .0 .few))
 
 add-sum : tie.Need-add-sum Inv-loop μ-loop
-add-sum c = sum-fits _ _ _ _ (loop c .loop .inv .1 .few) (cheap c) (omega (arith, ahead c, next c .inside, loop c .loop .inv .0 .few))
+add-sum c = sum-fits _ _ _ _ (loop c .loop .inv .1 .few) (capped c) (omega (arith, ahead c, next c .inside, loop c .loop .inv .0 .few))
 
 add-k : tie.Need-add-k Inv-loop μ-loop
 add-k c = search needs

@@ -3,12 +3,12 @@ use mathlib.Core.Path.{refl, sym, _∙_}
 use native.Mathlib.Omega.{arith}
 use borrow.Author.Needs.{needs}
 use borrow.Author.Tests.{not-true, not-false}
-use Rattle.price.proofs.Rules.{no-price, unmatched, too-many, asked}
+use Rattle.price.proofs.Rules.{no-steps, unmatched, too-many, asked}
 use Rattle.price.proofs.is_tariff.Statement.{statement}
 use Rattle.price.proofs.is_tariff.Tie as tie
 
 returns : tie.Need-returns
-returns c = no-price _ _ (c .if1 .taken)
+returns c = no-steps _ _ (c .if1 .taken)
 
 sub-if2 : tie.Need-sub-if2
 sub-if2 c = search needs
