@@ -48,7 +48,7 @@ pub extern "C" fn lanovishel_check(
 }
 
 // The price of a surface: 0 with the cents, or the number of the refusal, with the place of what is found.
-// `uppers` are the upper volumes of the price sheet's steps but the last, `prices` what a unit cube costs.
+// The price sheet: `uppers`, the upper volumes of all steps but the last, and `prices`, one a step.
 #[no_mangle]
 pub extern "C" fn lanovishel_price(
     points: &[f64],

@@ -1,14 +1,14 @@
--- The price of a volume by a tariff (document 02, F-14), over whole numbers. Definitions only.
+-- The price of a volume by a price sheet (document 02, F-14), over whole numbers. Definitions only.
 -- A volume is a whole number of what `six` of `volume` counts: six times it, in (1/1024)^3. Bounds are in unit cubes.
 use Prim.Native.Nat.{ℕ, _+_, _-_, _*_, _/_, _^_, min}
 use mathlib.Core.List.{List, [], _∷_}
 use lib.IntN.{ℤ, pos, negsuc}
 
--- a unit cube: its side is 1,024 coordinate units, so it is 2 ^ 30 of (1/1024)^3, and six times that
+-- six times a unit cube: its side is 1,024 coordinate units, so it is 2 ^ 30 of (1/1024)^3
 abbrev pub unitCube : ℕ
 unitCube = 6 * 2 ^ 30
 
--- how many unit cubes a part of the volume starts; the last may be started only
+-- how many unit cubes a part of the volume starts: rounded up
 abbrev pub started : ℕ → ℕ
 started part = (part + (unitCube - 1)) / unitCube
 

@@ -7,7 +7,7 @@ use lib.Dec.{eqb, leb, ltb}
 use lib.ListN.{length, getD}
 use Rattle.surface.specs.Check.{every}
 
--- one to eight steps, a price for each and an upper volume for each but the last; upper volumes rise strictly, prices are at most 100,000 cents
+-- a price sheet: one to eight steps, a price for each and an upper volume for each but the last; upper volumes rise strictly, prices are at most 100,000 cents
 pub record Tariff (uppers prices : List ℕ) : Type 0 where
   pub some : 1 ≤ length prices
   pub few : length prices ≤ 8
