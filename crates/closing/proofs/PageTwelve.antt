@@ -1,8 +1,8 @@
 -- Page twelve for the judgement: its answer depends neither on the order of the triangles nor on where each turn begins. And it is the original's answer.
 use Prim.Native.Nat.{ℕ}
-use mathlib.Core.Path.{_≡_, refl, sym, _∙_}
+use mathlib.Core.Path.{_≡_, sym, _∙_}
 use mathlib.Core.Logic.{_↔_}
-use mathlib.Core.Bool.{Bool, true, false, false≢true}
+use mathlib.Core.Bool.{Bool, true}
 use mathlib.Core.List.{List}
 use Rattle.surface.specs.Triangle.{triangles}
 use Rattle.surface.specs.Euler.{Below}
@@ -11,16 +11,10 @@ use Rattle.surface.specs.declared.Finding.the-variants as finds
 use Rattle.surface.proofs.Findings.{finding-closed, finding-order}
 use Rattle.surface.specs.Original.{originalClosed}
 use Rattle.surface.specs.PageTwelve.{Relisted}
+use Rattle.surface.proofs.Bools.{same-answer}
 use Rattle.surface.proofs.PageTwelve.{page-twelve}
 use Rattle.surface.proofs.Original.{original-iff}
 use Rattle.closing.specs.Closing.{Judgement, ClosedDecided}
-
--- two tests that are passed together give one answer
-same-answer : (r s : Bool) → ((r ≡ true) ↔ (s ≡ true)) → r ≡ s
-same-answer true true e = refl
-same-answer true false e = absurd (false≢true (e .0 refl))
-same-answer false true e = absurd (false≢true (e .1 refl))
-same-answer false false e = refl
 
 pub closed-order : {c d : List ℕ} → Relisted (triangles c) (triangles d) → {p q : ℕ} {w w′ x x′ : List ℕ} {r s : Bool} → ClosedDecided c p w w′ r → ClosedDecided d q x x′ s → r ≡ s
 closed-order relisted {r = r} {s = s} h k =

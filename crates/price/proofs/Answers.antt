@@ -17,10 +17,11 @@ use Rattle.units.specs.Units.{AllOnUnits, allOnUnits?}
 use Rattle.units.proofs.Tests.{all-on-units-iff}
 use Rattle.volume.specs.Exact.{Measurable}
 use Rattle.volume.proofs.Accepted.{measurable}
-use Rattle.price.specs.Tariff.{tariff?}
+use Rattle.price.specs.Tariff.{tariff?, Tariff}
 use Rattle.price.specs.Quote.{numberOf, centsOf, surfaceCents, afterChecking, quoted, Quoted}
 use Rattle.price.specs.declared.Quote.{Quote}
 use Rattle.price.specs.declared.Quote.the-variants.{Price, Refused}
+use Rattle.price.proofs.Rules.{tariff-iff}
 
 abbrev priced? : Quote → Bool
 priced? (Price c) = true
@@ -77,13 +78,13 @@ module _ (points : List Float) (corners labels work uppers prices : List ℕ) wh
 
   -- ---- what a call comes to
 
-  -- checking accepts, the coordinates are on whole units, and the sheet keeps the rules
+  -- checking accepts, the coordinates are on whole units, and the price sheet keeps the rules
   pub record HasPrice : Type 0 where
     pub quality : Float
     pub volume : Float
     pub accepted : validated points corners labels work ≡ verdict.Accepted quality volume
     pub units : AllOnUnits points
-    pub tariff : tariff? uppers prices ≡ true
+    pub tariff : Tariff uppers prices
 
   data Ends : Type 0 where
     by-checking : (why : Refusal) → validated points corners labels work ≡ verdict.Refused why → quoted points corners labels work uppers prices ≡ Refused why → Ends
@@ -94,7 +95,7 @@ module _ (points : List Float) (corners labels work uppers prices : List ℕ) wh
   ends = go (validated points corners labels work) refl
     where
       tests : (quality volume : Float) → validated points corners labels work ≡ verdict.Accepted quality volume → (a : Bool) → allOnUnits? points ≡ a → (b : Bool) → tariff? uppers prices ≡ b → Ends
-      tests quality volume e true p true t = with-price (record { quality = quality; volume = volume; accepted = e; units = all-on-units-iff points .0 p; tariff = t }) (by-question quality volume e p t)
+      tests quality volume e true p true t = with-price (record { quality = quality; volume = volume; accepted = e; units = all-on-units-iff points .0 p; tariff = tariff-iff uppers prices .0 t }) (by-question quality volume e p t)
       tests quality volume e true p false t = by-47 (by-question quality volume e p t)
       tests quality volume e false p b t = by-47 (by-question quality volume e p t)
 

@@ -1,7 +1,6 @@
 -- The laws of `specs/Laws`: the price grows with the volume, does not depend on the listing and the origin, and fits. Assumes nothing.
 use Prim.Native.Nat.{ℕ, _*_, _≤_}
 use mathlib.Core.Path.{_≡_, sym, ap, _∙_, subst₂}
-use mathlib.Core.Bool.{true}
 use mathlib.Core.List.{List, [], _∷_}
 use native.Mathlib.Nat.{le-trans, le-of-eq, sub-zero}
 use native.Mathlib.Omega.{arith}
@@ -15,14 +14,11 @@ use Rattle.volume.specs.Six.{six}
 use Rattle.volume.specs.Volume.{Balanced, ListedAnew, sixOf}
 use Rattle.volume.proofs.Accepted.{balanced, measurable}
 use Rattle.volume.proofs.Volume.{one-six, six-laws}
-use Rattle.price.specs.Price.{started, steps, amount, cents}
-use Rattle.price.specs.Tariff.{rising?, capped?}
+use Rattle.price.specs.Price.{started, sumOfSteps, amount, cents}
 use Rattle.price.specs.Quote.{surfaceCents}
 use Rattle.price.specs.Laws.{PriceLaws, Costs, QuoteLaws}
-use Rattle.price.specs.Stages.{byCubes}
-use Rattle.price.proofs.Steps.{steps-more, in-cubes, steps-zero, at-most}
-use Rattle.price.proofs.Size.{few-started}
-use Rattle.price.proofs.Rules.{tested}
+use Rattle.price.proofs.Steps.{sum-more, in-cubes, sum-zero}
+use Rattle.price.proofs.Size.{few-started, most-paid}
 use Rattle.price.proofs.Answers.{HasPrice, has-price}
 
 -- ---- the price of a volume
@@ -33,33 +29,26 @@ amount-more (pos a) (negsuc b) h = absurd (h .le)
 amount-more (negsuc a) w h = omega arith
 
 larger : (us ps : List ℕ) (v w : ℤ) → v ≤ℤ w → cents v us ps ≤ cents w us ps
-larger us ps v w h = steps-more (amount v) (amount w) (amount-more v w h) 0 us ps
+larger us ps v w h = sum-more (amount v) (amount w) (amount-more v w h) 0 us ps
 
 nothing : (us ps : List ℕ) (v : ℤ) → v ≤ℤ pos 0 → cents v us ps ≡ 0
 nothing us ps v h =
     let l = amount-more v (pos 0) h in
     let e : amount v ≡ 0 = omega arith in
-    ap (λ (n : ℕ). steps n 0 us ps) e ∙ steps-zero 0 us ps
+    ap (λ (n : ℕ). sumOfSteps n 0 us ps) e ∙ sum-zero 0 us ps
 
 no-triangles : (points : List Float) (us ps : List ℕ) (o : WholePoint) → cents (sixOf points [] o) us ps ≡ 0
 unfolding six triangles
-no-triangles points us ps o = steps-zero 0 us ps
+no-triangles points us ps o = sum-zero 0 us ps
 
 one-step : (p : ℕ) (v : ℤ) → cents v [] (p ∷ []) ≡ p * started (amount v)
-unfolding steps
+unfolding sumOfSteps
 one-step p v = ap (λ (n : ℕ). p * started n) (sub-zero (amount v))
 
 pub price-laws : PriceLaws
 price-laws = record { larger = larger; nothing = nothing; no-triangles = no-triangles; one-step = one-step }
 
 -- ---- the price of a surface
-
-begins-at-zero : (n : ℕ) (us ps : List ℕ) → rising? us ≡ true → capped? ps ≡ true → byCubes n 0 us ps ≤ 100000 * n
-begins-at-zero n [] ps r c = let h = at-most n 0 [] ps tt r c in omega arith
-begins-at-zero n (u ∷ us) ps r c = let h = at-most n 0 (u ∷ us) ps (omega arith) r c in omega arith
-
-within : (n p : ℕ) → n ≤ 8589934592 → p ≤ 100000 * n → p ≤ 858993459200000
-within n p a b = omega arith
 
 module _ (Priced : List Float → (corners uppers prices : List ℕ) → ℕ → Type 0) (costs : (points : List Float) (corners uppers prices : List ℕ) (price : ℕ) → Priced points corners uppers prices price → Costs points corners uppers prices price) where
   module _ {points : List Float} {corners us ps : List ℕ} {price : ℕ} (c : Priced points corners us ps price) where
@@ -82,10 +71,9 @@ module _ (Priced : List Float → (corners uppers prices : List ℕ) → ℕ →
 
     fits : price ≤ 858993459200000
     fits =
-        let t = tested us ps (case .tariff) in
         let v = amount (sixOf points corners (unitsAt points 0)) in
         let few = few-started points corners (measurable points corners (call .labels) (call .work) (case .quality) (case .volume) (case .accepted) (case .units)) in
-        within (started v) price few (le-trans (le-of-eq (is-exact ∙ in-cubes v 0 us ps)) (begins-at-zero (started v) us ps (t .risen) (t .capped)))
+        le-trans (le-of-eq (is-exact ∙ in-cubes v 0 us ps)) (most-paid (started v) us ps few (case .tariff))
 
   any-listing : {points points′ : List Float} {corners corners′ us ps : List ℕ} {price price′ : ℕ} → Priced points corners us ps price → Priced points′ corners′ us ps price′ → ListedAnew points corners points′ corners′ → price ≡ price′
   any-listing {points} {points′} {us = us} {ps} c c′ a =

@@ -49,7 +49,7 @@ module _ (us ps : List ℕ) where
   abbrev few : Bool
   few = leb (length ps) 8
 
-  pub by-rules : {a b c d : Bool} → matching ≡ a → few ≡ b → rising? us ≡ c → capped? ps ≡ d → tariff? us ps ≡ (a && (b && (c && d)))
+  by-rules : {a b c d : Bool} → matching ≡ a → few ≡ b → rising? us ≡ c → capped? ps ≡ d → tariff? us ps ≡ (a && (b && (c && d)))
   unfolding tariff?
   by-rules p q r s = λ i. p i && (q i && (r i && s i))
 

@@ -9,7 +9,7 @@ use lib.Dec.{leb, ltb}
 use borrow.Author.Tests.{leb-true, ltb-true}
 use Rattle.surface.specs.Check.{every}
 use Rattle.surface.proofs.Bools.{both}
-use Rattle.price.specs.Price.{started, between, above, steps}
+use Rattle.price.specs.Price.{started, between, above, sumOfSteps}
 use Rattle.price.specs.Tariff.{rises, rising?, capped?}
 use Rattle.price.specs.Stages.{byCubes}
 
@@ -18,11 +18,11 @@ use Rattle.price.specs.Stages.{byCubes}
 started-more : (a b : ℕ) → a ≤ b → started a ≤ started b
 started-more a b h = omega arith
 
-pub steps-more : (v w : ℕ) → v ≤ w → (l : ℕ) (us ps : List ℕ) → steps v l us ps ≤ steps w l us ps
-unfolding steps
-steps-more v w h l us [] = le-refl 0
-steps-more v w h l [] (p ∷ ps) = mul-le-mul-left p (started-more (above l v) (above l w) (omega arith))
-steps-more v w h l (u ∷ us) (p ∷ ps) = add-le-add (mul-le-mul-left p (started-more (between l u v) (between l u w) (omega arith))) (steps-more v w h u us ps)
+pub sum-more : (v w : ℕ) → v ≤ w → (l : ℕ) (us ps : List ℕ) → sumOfSteps v l us ps ≤ sumOfSteps w l us ps
+unfolding sumOfSteps
+sum-more v w h l us [] = le-refl 0
+sum-more v w h l [] (p ∷ ps) = mul-le-mul-left p (started-more (above l v) (above l w) (omega arith))
+sum-more v w h l (u ∷ us) (p ∷ ps) = add-le-add (mul-le-mul-left p (started-more (between l u v) (between l u w) (omega arith))) (sum-more v w h u us ps)
 
 -- ---- by started unit cubes
 
@@ -32,8 +32,8 @@ started-above v l = omega arith
 started-between : (v l u : ℕ) → started (between l u v) ≡ min (started v) u - l
 started-between v l u = omega arith
 
-pub in-cubes : (v l : ℕ) (us ps : List ℕ) → steps v l us ps ≡ byCubes (started v) l us ps
-unfolding steps byCubes
+pub in-cubes : (v l : ℕ) (us ps : List ℕ) → sumOfSteps v l us ps ≡ byCubes (started v) l us ps
+unfolding sumOfSteps byCubes
 in-cubes v l us [] = refl
 in-cubes v l [] (p ∷ ps) = ap (λ (n : ℕ). p * n) (started-above v l)
 in-cubes v l (u ∷ us) (p ∷ ps) = ap₂ (λ (m n : ℕ). p * m + n) (started-between v l u) (in-cubes v u us ps)
@@ -45,8 +45,8 @@ none l us [] = refl
 none l [] (p ∷ ps) = let e : 0 - l ≡ 0 = omega arith in ap (λ (n : ℕ). p * n) e ∙ mul-zero p
 none l (u ∷ us) (p ∷ ps) = let e : min 0 u - l ≡ 0 = omega arith in ap₂ (λ (m n : ℕ). p * m + n) e (none u us ps) ∙ ap (λ (n : ℕ). n + 0) (mul-zero p)
 
-pub steps-zero : (l : ℕ) (us ps : List ℕ) → steps 0 l us ps ≡ 0
-steps-zero l us ps = in-cubes 0 l us ps ∙ none l us ps
+pub sum-zero : (l : ℕ) (us ps : List ℕ) → sumOfSteps 0 l us ps ≡ 0
+sum-zero l us ps = in-cubes 0 l us ps ∙ none l us ps
 
 -- a lower bound beyond the cubes is as good as all of them
 pub clipped : (n l : ℕ) (us ps : List ℕ) → byCubes n l us ps ≡ byCubes n (min n l) us ps

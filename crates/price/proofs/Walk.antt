@@ -2,7 +2,7 @@
 use Prim.Native.Nat.{ℕ, _+_, _-_, _*_, _≤_, _<_, min}
 use mathlib.Core.Path.{_≡_, sym, ap, _∙_}
 use mathlib.Core.List.{List}
-use native.Mathlib.Nat.{mul-le-mul, mul-le-mul-right, add-assoc}
+use native.Mathlib.Nat.{mul-le-mul, add-assoc}
 use native.Mathlib.Numerals.{add-one}
 use native.Mathlib.Omega.{arith}
 use lib.ListN.{length, getD, drop, drop-of-length-le}
@@ -12,14 +12,15 @@ use mir.Val.{Fits}
 use Rattle.price.specs.Tariff.{Tariff}
 use Rattle.price.specs.Stages.{byCubes}
 use Rattle.price.proofs.Steps.{clipped}
+use Rattle.price.proofs.Size.{most-paid}
 
 -- ---- what is computed fits: no price is above 100,000, and no more than 2 ^ 33 cubes are counted
 
 pub product-fits : (p x : ℕ) → p ≤ 100000 → x ≤ 8589934592 → Fits w64 (p * x)
 product-fits p x h l = let m = mul-le-mul h l in omega arith
 
-pub sum-fits : (sum lower p x : ℕ) → sum ≤ 100000 * lower → p ≤ 100000 → lower + x ≤ 8589934592 → Fits w64 (sum + p * x)
-sum-fits sum lower p x f h l = let m : p * x ≤ 100000 * x = mul-le-mul-right x h in omega arith
+pub sum-fits : (sum p x : ℕ) → sum ≤ 858993459200000 → p ≤ 100000 → x ≤ 8589934592 → Fits w64 (sum + p * x)
+sum-fits sum p x f h l = let m = mul-le-mul h l in omega arith
 
 -- ---- the turns
 
@@ -29,15 +30,17 @@ module _ (n : ℕ) (us ps : List ℕ) where
     pub bounded : k ≤ length us
     pub inside : lower ≤ n
     pub next : k < length us → lower ≤ getD us k 0
-    pub few : sum ≤ 100000 * lower
     pub total : sum + byCubes n lower (drop k us) (drop k ps) ≡ byCubes n 0 us ps
 
   pub nothing-yet : Walking 0 0 0
-  nothing-yet = record { bounded = omega arith; inside = omega arith; next = λ l. omega arith; few = omega arith; total = omega arith }
+  nothing-yet = record { bounded = omega arith; inside = omega arith; next = λ l. omega arith; total = omega arith }
 
   module _ (s : Tariff us ps) (sum lower k : ℕ) (w : Walking sum lower k) where
     pub cap : getD ps k 0 ≤ 100000
     cap = s .capped k (omega (arith, s .one-fewer, w .bounded))
+
+    pub paid : n ≤ 8589934592 → sum ≤ 858993459200000
+    paid few = let m = most-paid n us ps few s in omega (arith, w .total)
 
     module _ (h : k < length us) (reach : ℕ) (e : reach ≡ min n (getD us k 0)) where
       pub forward : lower ≤ reach
@@ -57,7 +60,6 @@ module _ (n : ℕ) (us ps : List ℕ) where
         bounded = omega arith;
         inside = omega arith;
         next = λ l. let r = s .rising k l in omega arith;
-        few = let f : getD ps k 0 * (reach - lower) ≤ 100000 * (reach - lower) = mul-le-mul-right (reach - lower) cap in let g = forward in omega (arith, w .few);
         total = add-assoc sum (getD ps k 0 * (reach - lower)) (byCubes n reach (drop (k + 1) us) (drop (k + 1) ps)) ∙ ap (λ (x : ℕ). sum + x) (sym opened) ∙ w .total;
       }
 

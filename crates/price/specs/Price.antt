@@ -20,10 +20,10 @@ abbrev pub above : (lower volume : ℕ) → ℕ
 above lower volume = volume - lower * unitCube
 
 -- The sum over the steps: each begins at the upper volume of the step before it and ends at its own, and the last has none. Each unit cube that the volume starts within a step costs the step's price.
-unfoldable pub steps : (volume lower : ℕ) (uppers prices : List ℕ) → ℕ
-steps volume lower uppers [] = 0
-steps volume lower [] (price ∷ prices) = price * started (above lower volume)
-steps volume lower (upper ∷ uppers) (price ∷ prices) = price * started (between lower upper volume) + steps volume upper uppers prices
+unfoldable pub sumOfSteps : (volume lower : ℕ) (uppers prices : List ℕ) → ℕ
+sumOfSteps volume lower uppers [] = 0
+sumOfSteps volume lower [] (price ∷ prices) = price * started (above lower volume)
+sumOfSteps volume lower (upper ∷ uppers) (price ∷ prices) = price * started (between lower upper volume) + sumOfSteps volume upper uppers prices
 
 -- a volume below zero counts as zero
 abbrev pub amount : ℤ → ℕ
@@ -32,4 +32,4 @@ amount (negsuc n) = 0
 
 -- the price in cents; the first step begins at 0
 abbrev pub cents : ℤ → (uppers prices : List ℕ) → ℕ
-cents volume uppers prices = steps (amount volume) 0 uppers prices
+cents volume uppers prices = sumOfSteps (amount volume) 0 uppers prices

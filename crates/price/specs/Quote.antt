@@ -13,7 +13,7 @@ use Rattle.checking.specs.declared.Verdict.{Verdict}
 use Rattle.checking.specs.declared.Verdict.the-variants as verdict
 use Rattle.units.specs.Units.{allOnUnits?, unitsAt}
 use Rattle.volume.specs.Volume.{sixOf}
-use Rattle.price.specs.Price.{steps, cents}
+use Rattle.price.specs.Price.{sumOfSteps, cents}
 use Rattle.price.specs.Tariff.{tariff?}
 use Rattle.price.specs.declared.Quote.{Quote}
 use Rattle.price.specs.declared.Quote.the-variants.{Price, Refused}
@@ -39,7 +39,7 @@ surfaceCents points corners uppers prices = cents (sixOf points corners (unitsAt
 
 -- question 47, where checking accepts
 unfoldable pub afterChecking : List Float → (corners uppers prices : List ℕ) → Verdict → Quote
-unfolding every tariff? steps
+unfolding every tariff? sumOfSteps
 afterChecking points corners uppers prices (verdict.Refused why) = Refused why
 afterChecking points corners uppers prices (verdict.Accepted quality volume) =
     cond (allOnUnits? points && tariff? uppers prices) (Price (surfaceCents points corners uppers prices)) (Refused (Question 47))

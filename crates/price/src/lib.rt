@@ -126,7 +126,7 @@ pub fn price(
                 return Quote::Refused(Refusal::Question(47)); // a coordinate
             }
             if !is_tariff(uppers, prices) {
-                return Quote::Refused(Refusal::Question(47)); // the sheet
+                return Quote::Refused(Refusal::Question(47)); // the price sheet
             }
             let cubes = started_cubes(volume::exact(points, corners));
             Quote::Price(cost(cubes, uppers, prices))

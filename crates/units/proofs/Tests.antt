@@ -2,7 +2,7 @@
 use Prim.Native.Nat.{ℕ, _+_, _*_, _/_, _%_, _≤_}
 use mathlib.Core.Path.{_≡_, refl, sym, ap, _∙_, subst}
 use mathlib.Core.Logic.{_↔_}
-use mathlib.Core.Bool.{Bool, true, false, false≢true}
+use mathlib.Core.Bool.{Bool, true, false≢true}
 use mathlib.Core.List.{List}
 use native.Mathlib.Nat.{div-add-mod', add-zero, mul-mod-left}
 use lib.Dec.{eqb, leb}
@@ -10,7 +10,7 @@ use lib.IntN.{ℤ}
 use lib.ListN.{getD}
 use lib.Ieee.{Float, nan, inf, fin, up, down}
 use borrow.Author.Tests.{eqb-true, leb-true, eq-eqb, le-leb}
-use Rattle.surface.proofs.Bools.{both, join}
+use Rattle.surface.proofs.Bools.{both, join, same-answer}
 use Rattle.surface.proofs.All.{all-at, at-all}
 use Rattle.rounding.proofs.Exactness.{size-signed}
 use Rattle.units.specs.Units.{OnUnits, AllOnUnits, onUnits?, allOnUnits?}
@@ -47,11 +47,6 @@ module _ (points : List Float) where
     λ h. at-all onUnits? nan points (λ i l. on-units-iff (getD points i nan) .1 (h i l)),
   )
 
-  -- a Boolean that decides the same is the same
+  -- what decides the same answers the same
   pub on-units-test : (r : Bool) → (r ≡ true) ↔ AllOnUnits points → r ≡ allOnUnits? points
-  on-units-test true h = sym (all-on-units-iff .1 (h .0 refl))
-  on-units-test false h = go (allOnUnits? points) refl
-    where
-      go : (b : Bool) → allOnUnits? points ≡ b → false ≡ b
-      go false e = refl
-      go true e = h .1 (all-on-units-iff .0 e)
+  on-units-test r h = same-answer r (allOnUnits? points) ((λ e. all-on-units-iff .1 (h .0 e)), λ e. h .1 (all-on-units-iff .0 e))

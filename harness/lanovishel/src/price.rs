@@ -18,8 +18,8 @@ pub struct Tariff<'a> {
 ///
 /// The lists are those of [`check`](crate::check), and a surface that it refuses has no price.
 /// Every coordinate is in whole 1/1024 within ±32, also that of a point which no triangle names.
-/// However the surface is listed, its price is the same; a volume of 0 or less costs 0, and a
-/// larger volume never costs less.
+/// However the surface is listed, a price that it has is the same; a volume of 0 or less costs 0,
+/// and a larger volume never costs less.
 ///
 /// ```
 /// // 500 cents for each unit cube up to ten, and 300 for each above.

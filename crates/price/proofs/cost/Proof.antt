@@ -5,7 +5,7 @@ use lib.ListN.{length, getD}
 use denote.Ref.{now}
 use borrow.Author.Needs.{needs}
 use Rattle.price.specs.Stages.{Costable}
-use Rattle.price.proofs.Walk.{product-fits, sum-fits, Walking, nothing-yet, cap, forward, walked, ended}
+use Rattle.price.proofs.Walk.{product-fits, sum-fits, Walking, nothing-yet, cap, paid, forward, walked, ended}
 use Rattle.price.proofs.cost.Statement.{statement}
 use Rattle.price.proofs.cost.Tie as tie
 
@@ -60,7 +60,7 @@ mul-sum-2 : tie.Need-mul-sum-2 Inv-loop μ-loop
 mul-sum-2 c = product-fits _ _ (capped c) (omega (arith, next c .inside, loop c .loop .inv .0 .few))
 
 add-sum : tie.Need-add-sum Inv-loop μ-loop
-add-sum c = sum-fits _ _ _ _ (loop c .loop .inv .1 .few) (capped c) (omega (arith, ahead c, next c .inside, loop c .loop .inv .0 .few))
+add-sum c = sum-fits _ _ _ (paid _ _ _ (loop c .loop .inv .0 .tariff) _ _ _ (loop c .loop .inv .1) (loop c .loop .inv .0 .few)) (capped c) (omega (arith, next c .inside, loop c .loop .inv .0 .few))
 
 add-k : tie.Need-add-k Inv-loop μ-loop
 add-k c = search needs
@@ -90,7 +90,7 @@ mul-result-2 c =
 add-result : tie.Need-add-result Inv-loop μ-loop
 add-result c =
     let i = c .before .before .loop .inv in
-    sum-fits _ _ _ _ (i .1 .few) (cap _ _ _ (i .0 .tariff) _ _ _ (i .1)) (omega (arith, i .0 .few, i .1 .inside))
+    sum-fits _ _ _ (paid _ _ _ (i .0 .tariff) _ _ _ (i .1) (i .0 .few)) (cap _ _ _ (i .0 .tariff) _ _ _ (i .1)) (omega (arith, i .0 .few, i .1 .inside))
 
 returns : tie.Need-returns Inv-loop μ-loop
 returns c =

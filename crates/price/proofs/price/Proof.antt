@@ -20,7 +20,7 @@ use Rattle.price.proofs.Answers.{at-refused, measured, at-points, at-ta
 use Rattle.price.proofs.price.Statement.{statement}
 use Rattle.price.proofs.price.Tie as tie
 
--- the coordinates are on whole units, the lists are a sheet, and the volume may be measured
+-- the coordinates are on whole units, the lists are a price sheet, and the volume may be measured
 abbrev checked : tie.After-on-units → tie.After-validate
 checked c = c .before .before .before .before .before .before
 
