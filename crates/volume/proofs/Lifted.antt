@@ -1,24 +1,22 @@
 -- The determinant of a triangle as an unsigned number: scaled to whole numbers and lifted by 2 ^ 51, which makes it positive. Both steps are exact, and so is the cast. Assumes nothing.
-use mathlib.Core.Path.{_≡_, refl, sym, ap, _∙_, subst, subst₂}
+use mathlib.Core.Path.{_≡_, refl, sym, ap, _∙_, subst}
 use mathlib.Core.Bool.{Bool, false, cond}
 use mathlib.Core.List.{List}
 use Prim.Native.Nat.{ℕ, suc, _-_, _/_, _^_, _≤_, _<_}
-use native.Mathlib.Nat.{le-of-lt, lt-of-lt-of-le}
+use native.Mathlib.Nat.{lt-of-lt-of-le}
 use native.Mathlib.Omega.{arith}
-use lib.Dec.{T, lit≤, lit<, le→leb}
+use lib.Dec.{T, lit≤, lit<}
 use borrow.Author.Tests.{le-ltb}
 use lib.IntN.{ℤ, pos, negsuc, natAbs, _+ℤ_}
 use lib.ListN.{length}
-use lib.Ieee.{Float, binary64, ofBits, ofInt, round, add, inFloat, inUnsigned, toUnsigned}
-use lib.Ieee.Back.{round-whole, unsigned-back, whole-unique}
+use lib.Ieee.{Float, binary64, ofBits, inUnsigned, toUnsigned}
 use lib.Ieee.Exact.{HasValue}
-use lib.Ieee.Fits.{add-fits, ofInt-fits}
 use Rattle.float.specs.Point.{plus, times, dotted, crossed}
 use Rattle.surface.specs.Triangle.{tri}
 use Rattle.checking.specs.Validate.{placed}
 use Rattle.rounding.specs.Fraction.{Is}
-use Rattle.rounding.proofs.Rounded.{not-negative}
 use Rattle.rounding.proofs.Exactness.{power-exact}
+use Rattle.rounding.proofs.Cast.{unsigned}
 use Rattle.rounding.proofs.Bounded.{Holds, holds-plus}
 use Rattle.units.specs.Units.{AllOnUnits, unitsAt}
 use Rattle.volume.specs.Six.{sixAt}
@@ -69,21 +67,6 @@ lifted-positive (negsuc n) h =
 
     less : suc n ≤ mostSix → 2251799813685248 - suc n < 4503599627370496
     less l = omega arith
-
-fits-float : (n : ℕ) → n ≤ 2 ^ 53 → T (inFloat binary64 (pos n))
-unfolding inFloat
-fits-float n h = le→leb n (2 ^ 53) h
-
--- a positive whole number that a value is, as an unsigned integer
-unsigned : (x y : Float) (n : ℕ) → 0 < n → n < 4503599627370496 → Is (add binary64 x y) (pos n) 1 → T (inUnsigned binary64 64 (add binary64 x y)) × (toUnsigned 64 (add binary64 x y) ≡ n)
-unfolding ofInt
-unsigned x y n h l v =
-    let q = not-negative (v .sign) (v .size) n h (v .same) in
-    let small : n ≤ 2 ^ 53 = le-of-lt (lt-of-lt-of-le l (lit≤ {m = 4503599627370496} {n = 2 ^ 53} tt)) in
-    let e : add binary64 x y ≡ round binary64 false n 1 =
-    whole-unique binary64 (add binary64 x y) (round binary64 false n 1) false n (add-fits binary64 x y) (ofInt-fits binary64 (pos n))
-    (subst₂ (λ (s : Bool) (a : ℕ). HasValue (add binary64 x y) s a 1) (q .0) (q .1) (v .value)) (round-whole binary64 false n small) in
-    subst (λ (f : Float). T (inUnsigned binary64 64 f) × (toUnsigned 64 f ≡ n)) (sym e) (unsigned-back binary64 64 n (fits-float n small) (lt-of-lt-of-le l (lit≤ {m = 4503599627370496} {n = 2 ^ 64} tt)))
 
 pub lifted-cast : {d : Float} {z : ℤ} → Holds d z 30 mostSix → T (inUnsigned binary64 64 (plus (times d scale) lift)) × (toUnsigned 64 (plus (times d scale) lift) ≡ lifted z)
 lifted-cast {d} {z} h =

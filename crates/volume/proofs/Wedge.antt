@@ -1,27 +1,17 @@
 -- The determinant that `wedge` divides by six is exact: the points of a list on whole units, measured from its first, have differences up to 2 ^ 16 units, cross products up to 2 ^ 33 and determinants up to 3 * 2 ^ 49. Assumes nothing.
 use mathlib.Core.List.{List}
-use Prim.Native.Nat.{ℕ, _+_, _*_, _/_, _<_}
+use Prim.Native.Nat.{ℕ, _*_, _/_, _<_}
 use native.Mathlib.Omega.{arith}
 use lib.IntN.{ℤ, _-ℤ_, _*ℤ_}
-use lib.ListN.{length, getD}
-use lib.Ieee.{Float, nan, binary64}
-use Rattle.float.specs.Point.{less, times, difference, dotted, crossed}
+use lib.ListN.{length}
+use lib.Ieee.{Float, binary64}
+use Rattle.float.specs.Point.{less, times, dotted, crossed}
 use Rattle.float.specs.declared.Point.{Point}
-use Rattle.checking.specs.Validate.{pointAt, placed}
-use Rattle.units.specs.Units.{WholePoint, AllOnUnits, unitsAt, inUnits}
+use Rattle.checking.specs.Validate.{placed}
+use Rattle.units.specs.Units.{WholePoint, AllOnUnits, unitsAt}
+use Rattle.units.proofs.Points.{PointHolds, point-holds, difference-holds}
 use Rattle.rounding.proofs.Bounded.{Holds, holds-minus, holds-plus, holds-times}
 use Rattle.volume.specs.Six.{measuredFrom, cross, dot, determinant}
-
-pub record PointHolds (p : Point) (w : WholePoint) (k b : ℕ) : Type 0 where
-  pub x : Holds (p .x) (w .x) k b
-  pub y : Holds (p .y) (w .y) k b
-  pub z : Holds (p .z) (w .z) k b
-
-difference-holds : {p q : Point} {v w : WholePoint} → PointHolds p v 10 32768 → PointHolds q w 10 32768 → PointHolds (difference p q) (measuredFrom w v) 10 65536
-difference-holds g h = record { x = one (g .x) (h .x); y = one (g .y) (h .y); z = one (g .z) (h .z) }
-  where
-    one : {x y : Float} {a c : ℤ} → Holds x a 10 32768 → Holds y c 10 32768 → Holds (less x y) (a -ℤ c) 10 65536
-    one = holds-minus binary64 10 32768 32768 (omega arith) (omega arith)
 
 crossed-holds : {p q : Point} {v w : WholePoint} → PointHolds p v 10 65536 → PointHolds q w 10 65536 → PointHolds (crossed p q) (cross v w) 20 8589934592
 crossed-holds g h = record { x = one (g .y) (h .z) (g .z) (h .y); y = one (g .z) (h .x) (g .x) (h .z); z = one (g .x) (h .y) (g .y) (h .x) }
@@ -48,12 +38,5 @@ determinant-holds g h i = dotted-holds g (crossed-holds h i)
 
 -- ---- the points of a list
 
-module _ (points : List Float) (on : AllOnUnits points) where
-  point-holds : (i : ℕ) → i < length points / 3 → PointHolds (pointAt points i) (unitsAt points i) 10 32768
-  point-holds i l = record { x = one (3 * i) (omega arith); y = one (3 * i + 1) (omega arith); z = one (3 * i + 2) (omega arith) }
-    where
-      one : (j : ℕ) → j < length points → Holds (getD points j nan) (inUnits (getD points j nan)) 10 32768
-      one j k = record { is = on j k .whole; most = on j k .range }
-
-  pub placed-holds : (i : ℕ) → i < length points / 3 → PointHolds (placed points i) (measuredFrom (unitsAt points 0) (unitsAt points i)) 10 65536
-  placed-holds i l = difference-holds (point-holds i l) (point-holds 0 (omega arith))
+pub placed-holds : (points : List Float) → AllOnUnits points → (i : ℕ) → i < length points / 3 → PointHolds (placed points i) (measuredFrom (unitsAt points 0) (unitsAt points i)) 10 65536
+placed-holds points on i l = difference-holds (point-holds points on i l) (point-holds points on 0 (omega arith))
