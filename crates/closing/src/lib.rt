@@ -136,7 +136,7 @@ fn corner_ringed(corners: &[u32], points: usize, least: usize, v: usize, work: &
 }
 
 // The chains are made and the stamps are 0.
-fn prepare(corners: &[u32], points: usize, work: &mut [u32])
+pub fn prepare(corners: &[u32], points: usize, work: &mut [u32])
     requires { ⌜ Lent (now corners) points (now work) ⌝ }
     ensures { λ _. ⌜ Prepared (now (corners .entry)) points (now (work .entry)) (now (work .exit)) ⌝ }
 {

@@ -133,7 +133,7 @@ fn labels_known(labels: &[u8]) -> bool
 }
 
 // Whether every corner is below the number of points.
-fn corners_listed(corners: &[u32], points: usize) -> bool
+pub fn corners_listed(corners: &[u32], points: usize) -> bool
     ensures { λ r. ⌜ r ≡ listed? points (now (corners .entry)) ⌝ }
 {
     let mut i: usize = 0;
