@@ -3,7 +3,7 @@
  * A list is a pointer and a length. No function asks anything of its caller but that each pointer is valid
  * for its length and that no list that is written overlaps another. A call answers 0 where it is accepted, and
  * else one of the numbers that docs/NUMBERS.md lists: it then leaves every list as it was lent (the work words
- * as document 01 says).
+ * as document 01 says, and 0 in a list that is lent for answers alone).
  *
  * place says where a surface is open: after 31 and 32 the side from place[0] to place[1], after 33 the corner
  * place[0], and place[1] is 0. After any other answer both are 0. */
@@ -71,5 +71,22 @@ uint32_t lanovishel_price(const double *points, size_t point_values,
                           const uint64_t *uppers, size_t upper_count,
                           const uint64_t *prices, size_t price_count,
                           uint64_t cents[1], uint32_t place[2]);
+
+/* What stands for a corner where a surface has no triangles. */
+#define LANOVISHEL_NO_CORNER UINT64_C(4294967295)
+
+/* The nearest corner of a surface to each of up to 64 probes, among the corners that a triangle names. The surface
+ * may be open, and its labels may be any. probes has three values a probe, and every coordinate is in whole 1/1024
+ * within 32 either way, those of unused points too. Where the call is accepted, count has the number of probes, and
+ * answers has two words for each, what it would get alone, then 0: the corner, of equally near ones the smallest,
+ * and its squared distance in (1/1024)^2, or LANOVISHEL_NO_CORNER and 0 where there are no triangles. Else answers
+ * and count are 0. */
+uint32_t lanovishel_nearest(const double *points, size_t point_values,
+                            const uint32_t *corners, size_t corner_numbers,
+                            const uint8_t *labels, size_t label_count,
+                            uint32_t *work, size_t work_words,
+                            const double *probes, size_t probe_values,
+                            uint64_t *answers, size_t answer_words,
+                            uint32_t count[1]);
 
 #endif

@@ -1,3 +1,4 @@
--- Laws of calls that answer 0. `Volume`: page twelve's next printing; `Price`: the powder tariff.
+-- Laws of calls that answer 0. `Volume`: page twelve's next printing; `Price`: the powder tariff; `Nearest`: nearest corners.
 pub mod Volume
 pub mod Price
+pub mod Nearest

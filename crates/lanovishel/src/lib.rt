@@ -3,12 +3,14 @@
 use checking::Verdict;
 use editing::Outcome;
 use price::Quote;
+use questions::Asked;
 ghost use mathlib.Core.Path.{_≡_};
 ghost use Prim.Native.Nat.{_%_, _^_};
 ghost use lib.Ieee.{binary64};
 ghost use Rattle.float.specs.Root.{root};
 ghost use Rattle.lanovishel.specs.Check.{Checked};
 ghost use Rattle.lanovishel.specs.Price.{PriceCall};
+ghost use Rattle.lanovishel.specs.Nearest.{NearestCall};
 ghost use Rattle.lanovishel.specs.Edit.{EditCall};
 ghost use Rattle.lanovishel.specs.Improve.{ImproveCall};
 
@@ -71,6 +73,32 @@ pub extern "C" fn lanovishel_price(
         Quote::Refused(why) => {
             *cents = [0];
             *place = why.place();
+            why.number()
+        }
+    }
+}
+
+// The nearest corners in use of up to 64 probes, three values each: 0 with how many answer places are
+// filled, a corner and its squared distance each, or the number of the refusal.
+#[no_mangle]
+pub extern "C" fn lanovishel_nearest(
+    points: &[f64],
+    corners: &[u32],
+    labels: &[u8],
+    work: &mut [u32],
+    probes: &[f64],
+    answers: &mut [u64],
+    count: &mut [u32; 1],
+) -> u32
+    ensures { λ r. ⌜ NearestCall (now (points .entry)) (now (corners .entry)) (now (labels .entry)) (now (work .entry)) (now (probes .entry)) (now (answers .entry)) (now (work .exit)) (now (answers .exit)) (now (count .exit)) r ⌝ }
+{
+    match nearest::nearest(points, corners, labels, work, probes, answers) {
+        Asked::Passed => {
+            *count = [low_word(probes.len() / 3)];
+            0
+        }
+        Asked::Refused(why) => {
+            *count = [0];
             why.number()
         }
     }

@@ -1,30 +1,26 @@
--- The squared distance of points on whole units is exact in f64: differences up to 2 ^ 16 units, squares up to 2 ^ 32, their sum up to 3 * 2 ^ 32. It is compared and cast as the whole number that it is. Assumes nothing.
-use Prim.Native.Nat.{ℕ, zero, suc, _+_, _-_, _*_, _/_, _^_, _≤_, _<_}
-use mathlib.Core.Path.{_≡_, refl, sym, ap, _∙_, subst}
-use mathlib.Core.Logic.{_⊎_, inl, inr}
-use mathlib.Core.Bool.{Bool, true, false, _&&_, _||_, false≢true}
+-- The squared distance of points on whole units is exact in f64: differences up to 2 ^ 16 units, squares up to 2 ^ 32, their sum up to 3 * 2 ^ 32. It is cast to the whole number that it is. Assumes nothing.
+use Prim.Native.Nat.{ℕ, _+_, _-_, _*_, _/_, _^_, _≤_, _<_}
+use mathlib.Core.Path.{_≡_, refl, sym, _∙_, subst}
+use mathlib.Core.Bool.{false}
 use mathlib.Core.List.{List}
-use native.Mathlib.Nat.{eq-or-lt-of-le, lt-of-le-of-lt}
+use native.Mathlib.Nat.{lt-of-le-of-lt}
 use native.Mathlib.Omega.{arith}
-use lib.Dec.{T, eqb, leb, ltb, lit≤, lit<}
-use borrow.Author.Tests.{eqb-true, leb-true, ltb-true, eq-eqb, ne-eqb, le-leb, lt-leb, lt-ltb}
-use lib.IntN.{ℤ, pos, negsuc, natAbs, _*ℤ_, pos-ne-negsuc}
+use lib.Dec.{T, lit≤, lit<}
+use lib.IntN.{ℤ, pos, negsuc, _*ℤ_}
 use lib.ListN.{length}
-use lib.Ieee.{Float, binary64, ofBits, le, below, level, inUnsigned, toUnsigned}
+use lib.Ieee.{Float, binary64, ofBits, inUnsigned, toUnsigned}
 use lib.Ieee.Exact.{HasValue}
 use Rattle.float.specs.Point.{plus, times, difference, dotted}
 use Rattle.float.specs.declared.Point.{Point}
-use Rattle.surface.proofs.Bools.{same-answer}
 use Rattle.checking.specs.Validate.{pointAt}
-use Rattle.rounding.specs.Fraction.{signed, Is}
+use Rattle.rounding.specs.Fraction.{Is}
 use Rattle.rounding.proofs.Bounded.{Holds, holds-plus, holds-times}
 use Rattle.rounding.proofs.Exactness.{power-exact, add-exact}
-use Rattle.rounding.proofs.Compared.{le-values}
 use Rattle.rounding.proofs.Cast.{unsigned}
 use Rattle.units.specs.Units.{WholePoint, AllOnUnits, unitsAt}
 use Rattle.units.proofs.Points.{PointHolds, point-holds, difference-holds}
 use Rattle.nearest.specs.Nearest.{squared, apart}
-use Rattle.nearest.specs.Stages.{inSquares, Whole}
+use Rattle.nearest.specs.Stages.{inSquares, OnSquares}
 
 -- ---- the distance
 
@@ -52,51 +48,6 @@ distance-holds points probes on of v i h k p q d e f g =
 pub apart-most : (points probes : List Float) → AllOnUnits points → AllOnUnits probes → (v i : ℕ) → v < length points / 3 → i < length probes / 3 → apart (unitsAt points v) (unitsAt probes i) ≤ mostApart
 apart-most points probes on of v i h k = distance-holds points probes on of v i h k _ _ _ refl refl refl .most
 
--- ---- compared
-
-less-or-same : (m n : ℕ) → (ltb m n || (eqb m n && true)) ≡ leb m n
-less-or-same m n = same-answer (ltb m n || (eqb m n && true)) (leb m n) (there (ltb m n) refl (eqb m n) refl, λ e. back (eq-or-lt-of-le (leb-true m n e)))
-  where
-    there : (a : Bool) → ltb m n ≡ a → (b : Bool) → eqb m n ≡ b → (ltb m n || (eqb m n && true)) ≡ true → leb m n ≡ true
-    there true p b q e = let h = ltb-true m n p in le-leb m n (omega arith)
-    there false p true q e = let h = eqb-true m n q in le-leb m n (omega arith)
-    there false p false q e = let z : false ≡ true = sym (λ i. p i || (q i && true)) ∙ e in absurd (false≢true z)
-
-    or-true : (b : Bool) → (b || true) ≡ true
-    or-true true = refl
-    or-true false = refl
-
-    back : (m ≡ n) ⊎ (m < n) → (ltb m n || (eqb m n && true)) ≡ true
-    back (inl e) = ap (λ (t : Bool). ltb m n || (t && true)) (eq-eqb m n e) ∙ or-true (ltb m n)
-    back (inr l) = rw (lt-ltb m n l)
-
--- a zero may have either sign
-zero-first : (n : ℕ) → (below true 0 false n || level true 0 false n) ≡ true
-zero-first zero = refl
-zero-first (suc n) = ap (λ (t : Bool). t || level true 0 false (suc n)) (lt-ltb 0 (0 + suc n) (omega arith))
-
-zero-second : (m : ℕ) → (below false m true 0 || level false m true 0) ≡ leb m 0
-zero-second zero = refl
-zero-second (suc m) = let e = ne-eqb (suc m) 0 (λ h. omega arith) in (λ i. e i && e i) ∙ sym (lt-leb (suc m) 0 (omega arith))
-
-pub le-whole : {x y : Float} {a b c : ℕ} → 0 < c → Is x (pos a) c → Is y (pos b) c → le x y ≡ leb a b
-le-whole {x} {y} {a} {b} {c} h p q = le-values x y (p .sign) (q .sign) (p .size) (q .size) c h (p .value) (q .value) ∙ go (p .sign) (q .sign) (p .size) (q .size) (p .same) (q .same)
-  where
-    none : (n k : ℕ) → signed true n ≡ pos k → (n ≡ 0) × (k ≡ 0)
-    none zero k e = (refl, sym (ap natAbs e))
-    none (suc n) k e = absurd (pos-ne-negsuc k n (sym e))
-
-    go : (s t : Bool) (m n : ℕ) → signed s m ≡ pos a → signed t n ≡ pos b → (below s m t n || level s m t n) ≡ leb a b
-    go false false m n e f = less-or-same m n ∙ (λ i. leb (natAbs (e i)) (natAbs (f i)))
-    go true false m n e f = let z = none m a e in (λ i. below true (z .0 i) false n || level true (z .0 i) false n) ∙ zero-first n ∙ sym (ap (λ (k : ℕ). leb k b) (z .1) ∙ le-leb 0 b (omega arith))
-    go false true m n e f =
-        let z = none n b f in
-        (λ i. below false m true (z .0 i) || level false m true (z .0 i)) ∙ zero-second m ∙ (λ i. leb (natAbs (e i)) (sym (z .1) i))
-    go true true m n e f =
-        let y = none m a e in
-        let z = none n b f in
-        (λ i. below true (y .0 i) true (z .0 i) || level true (y .0 i) true (z .0 i)) ∙ (λ i. leb (sym (y .1) i) (sym (z .1) i))
-
 -- ---- cast
 
 -- 2 ^ 20 and 1
@@ -115,11 +66,11 @@ unfolding ofBits
 unit-is = record { sign = false; size = 1; value = (refl, refl); same = refl }
 
 -- one more than it is: a positive number, so that there is no -0
-pub cast : (d : Float) → Whole d → T (inUnsigned binary64 64 (plus (times d scale) unit)) × (toUnsigned 64 (plus (times d scale) unit) ≡ inSquares d + 1)
+pub cast : (d : Float) → OnSquares d → T (inUnsigned binary64 64 (plus (times d scale) unit)) × (toUnsigned 64 (plus (times d scale) unit) ≡ inSquares d + 1)
 cast d h =
     let n = inSquares d in
-    unsigned (times d scale) unit (n + 1) (omega arith) (small n (h .most))
-    (add-exact binary64 0 (power-exact binary64 20 scale (h .is) scale-value (lt-of-le-of-lt (h .most) (lit< {m = 17179869184} {n = 2 ^ 53} tt))) unit-is (lt-of-le-of-lt (near n (h .most)) (lit< {m = 17179869185} {n = 2 ^ 53} tt)) (lit≤ tt))
+    unsigned (times d scale) unit (n + 1) (omega arith) (small n (h .range))
+    (add-exact binary64 0 (power-exact binary64 20 scale (h .whole) scale-value (lt-of-le-of-lt (h .range) (lit< {m = 17179869184} {n = 2 ^ 53} tt))) unit-is (lt-of-le-of-lt (near n (h .range)) (lit< {m = 17179869185} {n = 2 ^ 53} tt)) (lit≤ tt))
   where
     small : (n : ℕ) → n ≤ 17179869184 → n + 1 < 4503599627370496
     small n l = omega arith

@@ -3,6 +3,7 @@ use Prim.Native.Nat.{ℕ, zero, suc, _+_, _-_, _*_, _/_, _≤_, _<_}
 use mathlib.Core.Path.{_≡_, refl, sym, ap, _∙_, subst, subst₂}
 use mathlib.Core.List.{List, [], _∷_, _++_}
 use native.Mathlib.Omega.{arith}
+use lib.Dec.{lit≤}
 use lib.ListN.{length, getD, take, drop, replicate}
 use lib.Seq.{drop-cons}
 use lib.Ieee.{Float, nan}
@@ -10,13 +11,15 @@ use Rattle.surface.specs.Triangle.{triangles}
 use Rattle.surface.specs.Closed.{around}
 use Rattle.halfedges.specs.Place.{at}
 use Rattle.closing.specs.Closing.{Lent}
-use Rattle.units.specs.Units.{WholePoint, unitsAt}
+use Rattle.questions.specs.declared.Asked.the-variants.{Passed}
+use Rattle.units.specs.Units.{WholePoint, AllOnUnits, unitsAt}
 use Rattle.nearest.specs.Nearest.{apart, used?, Best, nobody, found, best, nearestTo, cornerOf, distanceOf, places, answered}
+use Rattle.nearest.specs.Call.{Askable, nearestQuestions}
 use Rattle.nearest.specs.Laws.{Closest, cornerAt, distanceAt, Answers, NearestLaws}
 use Rattle.nearest.proofs.Best.{Outcome, none, one, outcome}
 use Rattle.nearest.proofs.Use.{used-iff, first-used, on-list}
 use Rattle.nearest.proofs.Places.{at-place, past-places}
-use Rattle.nearest.proofs.Answers.{admitted}
+use Rattle.nearest.proofs.Questions.{askable-iff, at-end, admitted}
 
 -- ---- one probe
 
@@ -117,6 +120,23 @@ alone points corners probes answers answer i h a b =
     let e = ap (nearestTo points corners) (same-probe probes i h) in
     (s .0 ∙ sym (t .0 ∙ ap cornerOf e), s .1 ∙ sym (t .1 ∙ ap distanceOf e))
 
+single-askable : (points probes : List Float) (words words′ : ℕ) → Askable points probes words → (i : ℕ) → i < length probes / 3 → 2 ≤ words′ → Askable points (take 3 (drop (3 * i) probes)) words′
+single-askable points probes words words′ a i h w =
+    subst (λ (l : List Float). Askable points l words′) (sym (three probes i h))
+    (record { threes = refl; few = lit≤ tt; places = omega arith; whole-probes = coordinate; whole-points = a .whole-points })
+  where
+    coordinate : AllOnUnits (getD probes (3 * i) nan ∷ getD probes (3 * i + 1) nan ∷ getD probes (3 * i + 2) nan ∷ [])
+    coordinate zero l = a .whole-probes (3 * i) (omega arith)
+    coordinate (suc zero) l = a .whole-probes (3 * i + 1) (omega arith)
+    coordinate (suc (suc zero)) l = a .whole-probes (3 * i + 2) (omega arith)
+    coordinate (suc (suc (suc j))) l = absurd (omega arith)
+
+alone-passes : (points : List Float) (corners labels work : List ℕ) (probes : List Float) (words words′ : ℕ) → nearestQuestions points corners labels work probes words ≡ Passed
+    → (i : ℕ) → i < length probes / 3 → 2 ≤ words′ → nearestQuestions points corners labels work (take 3 (drop (3 * i) probes)) words′ ≡ Passed
+alone-passes points corners labels work probes words words′ e i h w =
+    let g = admitted points corners labels work probes words e in
+    sym (at-end points corners labels work (take 3 (drop (3 * i) probes)) words′ (g .first) (g .listed) (askable-iff points (take 3 (drop (3 * i) probes)) words′ .1 (single-askable points probes words words′ (g .askable) i h w)))
+
 -- what has the answers of a call has their laws
 pub nearest-laws-of : (Says : List Float → List ℕ → List Float → List ℕ → Type 0) → ((points : List Float) (corners : List ℕ) (probes : List Float) (answers : List ℕ) → Says points corners probes answers → Answers points corners probes answers)
     → NearestLaws Says
@@ -125,6 +145,7 @@ nearest-laws-of Says from = record {
   only = only;
   no-triangles = λ points corners probes answers a. without points corners probes answers (from points corners probes answers a);
   alone = λ points corners probes answers answer i h a b. alone points corners probes answers answer i h (from points corners probes answers a) (from points corners (take 3 (drop (3 * i) probes)) answer b);
+  alone-passes = alone-passes;
   behind = λ points corners probes answers a. behind points corners probes answers (from points corners probes answers a);
 }
 

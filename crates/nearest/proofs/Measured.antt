@@ -19,7 +19,7 @@ use Rattle.rounding.proofs.Rounded.{is-wholes}
 use Rattle.units.specs.Units.{unitsAt}
 use Rattle.nearest.specs.Nearest.{apart, used?, Best, nobody, found, best, nearestTo, cornerOf, distanceOf, places, answered}
 use Rattle.nearest.specs.Call.{Askable}
-use Rattle.nearest.specs.Stages.{marked, bestOf, farOf, Kept, Laid, Keeps, inSquares, Whole, shown, FilledIn, Measured}
+use Rattle.nearest.specs.Stages.{marked, bestOf, farOf, Kept, Laid, Keeps, inSquares, OnSquares, shown, FilledIn, Measured}
 use Rattle.nearest.proofs.Best.{Outcome, one, outcome, best-same}
 use Rattle.nearest.proofs.Use.{marked-used}
 use Rattle.nearest.proofs.Places.{places-same}
@@ -66,10 +66,10 @@ module _ (points : List Float) (corners work : List ℕ) (probes : List Float) (
     squares-is : (i : ℕ) → i < length probes / 3 → inSquares (getD least i nan) ≡ farOf (foundFor i)
     squares-is i h = ap natAbs (is-wholes (k i h .far))
 
-    pub all-whole : (i : ℕ) → i < length probes / 3 → Whole (getD least i nan)
+    pub all-whole : (i : ℕ) → i < length probes / 3 → OnSquares (getD least i nan)
     all-whole i h =
         let e = squares-is i h in
-        record { is = subst (λ (n : ℕ). Is (getD least i nan) (pos n) 1048576) (sym e) (k i h .far); most = subst (λ (n : ℕ). n ≤ 17179869184) (sym e) (small i h) }
+        record { whole = subst (λ (n : ℕ). Is (getD least i nan) (pos n) 1048576) (sym e) (k i h .far); range = subst (λ (n : ℕ). n ≤ 17179869184) (sym e) (small i h) }
 
     shown-is : (i : ℕ) → i < length probes / 3 → shown (at nearest i) (getD least i nan) ≡ distanceOf (foundFor i)
     shown-is i h = ap₂ (λ (v n : ℕ). cond (eqb v 4294967295) 0 n) (k i h .named) (squares-is i h) ∙ go (foundFor i) (found-is i)

@@ -15,16 +15,17 @@ use lib.Seq.{getD-set-same, getD-set-other}
 use lib.Ieee.{Float, nan, le}
 use Rattle.halfedges.specs.Place.{at}
 use Rattle.rounding.specs.Fraction.{Is}
+use Rattle.rounding.proofs.Compared.{le-numbers}
 use Rattle.units.specs.Units.{unitsAt}
 use Rattle.nearest.specs.Nearest.{apart, Best, nobody, found, better, best}
 use Rattle.nearest.specs.Stages.{marked, bestOf, farOf, Kept, Laid, Keeps, Considered}
-use Rattle.nearest.proofs.Exact.{mostApart, le-whole}
+use Rattle.nearest.proofs.Exact.{mostApart}
 
 -- ---- one probe
 
 kept-better : (b : Best) (corner : ℕ) (e : Float) → Kept b corner e → (v n : ℕ) (d : Float) → Is d (pos n) 1048576 → n ≤ mostApart → Kept (better b v n) (cond (le e d) corner v) (cond (le e d) e d)
 kept-better b corner e k v n d i most =
-    subst (λ (t : Bool). Kept (better b v n) (cond t corner v) (cond t e d)) (sym (le-whole (lit< tt) (k .far) i)) (go b k (leb (farOf b) n) refl)
+    subst (λ (t : Bool). Kept (better b v n) (cond t corner v) (cond t e d)) (sym (le-numbers (lit< tt) (k .far) i)) (go b k (leb (farOf b) n) refl)
   where
     go : (b : Best) → Kept b corner e → (t : Bool) → leb (farOf b) n ≡ t → Kept (better b v n) (cond t corner v) (cond t e d)
     go nobody k true p = let h = leb-true 17179869184 n p in absurd (omega arith)

@@ -22,7 +22,7 @@ pub record Askable (points probes : List Float) (words : ℕ) : Type 0 where
   pub whole-probes : AllOnUnits probes
   pub whole-points : AllOnUnits points
 
--- the same as a test that computes (`askable-iff` of proofs/Answers)
+-- the same as a test that computes (`askable-iff` of proofs/Questions)
 unfoldable pub askable? : (points probes : List Float) (words : ℕ) → Bool
 unfolding every
 askable? points probes words =

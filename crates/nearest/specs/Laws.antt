@@ -46,5 +46,8 @@ pub record NearestLaws (Says : List Float → List ℕ → List Float → List �
   -- each probe's answer is the one that it would get alone
   pub alone : (points : List Float) (corners : List ℕ) (probes : List Float) (answers answer : List ℕ) (i : ℕ) → i < length probes / 3
       → Says points corners probes answers → Says points corners (take 3 (drop (3 * i) probes)) answer → (cornerAt answers i ≡ cornerAt answer 0) × (distanceAt answers i ≡ distanceAt answer 0)
-  -- and 0 stands behind them
+  -- and alone it is let in, too
+  pub alone-passes : (points : List Float) (corners labels work : List ℕ) (probes : List Float) (words words′ : ℕ) → nearestQuestions points corners labels work probes words ≡ Passed
+      → (i : ℕ) → i < length probes / 3 → 2 ≤ words′ → nearestQuestions points corners labels work (take 3 (drop (3 * i) probes)) words′ ≡ Passed
+  -- 0 stands behind the answers
   pub behind : (points : List Float) (corners : List ℕ) (probes : List Float) (answers : List ℕ) → Says points corners probes answers → (j : ℕ) → 2 * (length probes / 3) ≤ j → getD answers j 0 ≡ 0

@@ -58,9 +58,9 @@ pub record Considered (v : ℕ) (d : Float) (i : ℕ) (nearest : List ℕ) (leas
 abbrev pub inSquares : Float → ℕ
 inSquares d = natAbs (wholes 1048576 d)
 
-pub record Whole (d : Float) : Type 0 where
-  pub is : Is d (pos (inSquares d)) 1048576
-  pub most : inSquares d ≤ 17179869184
+pub record OnSquares (d : Float) : Type 0 where
+  pub whole : Is d (pos (inSquares d)) 1048576
+  pub range : inSquares d ≤ 17179869184
 
 -- the distance that is shown beside a corner, or beside the mark
 abbrev pub shown : ℕ → Float → ℕ

@@ -10,7 +10,7 @@ ghost use lib.Ieee.{nan};
 ghost use Rattle.float.specs.Point.{difference, dotted};
 ghost use Rattle.closing.specs.Closing.{Lent};
 ghost use Rattle.nearest.specs.Call.{Askable, askable?, Replies};
-ghost use Rattle.nearest.specs.Stages.{Asks, Laid, Keeps, Considered, Whole, shown, FilledIn, Measured};
+ghost use Rattle.nearest.specs.Stages.{Asks, Laid, Keeps, Considered, OnSquares, shown, FilledIn, Measured};
 
 // Every word becomes 0.
 fn wipe(list: &mut [u64])
@@ -100,7 +100,7 @@ fn compare(
     requires { ⌜ Keeps (now points) (now work) (now probes) v (now nearest) (now least) ⌝ }
     ensures { λ _. ⌜ Keeps (now (points .entry)) (now (work .entry)) (now (probes .entry)) (v + 1) (now (nearest .exit)) (now (least .exit)) ⌝ }
 {
-    let head = work[v];
+    let head = work[v]; // of the chain of its places
     if head == 0 {
         return;
     }
@@ -127,7 +127,7 @@ fn pass(points: &[f64], work: &[u32], probes: &[f64], nearest: &mut [u64], least
 
 // The distance that is shown beside a corner, as a whole number of (1/1024)^2; beside the mark, 0.
 fn show(corner: u64, d: f64) -> u64
-    requires { ⌜ Whole d ⌝ }
+    requires { ⌜ OnSquares d ⌝ }
     ensures { λ r. ⌜ r ≡ shown corner d ⌝ }
 {
     if corner == 4294967295 {
@@ -139,7 +139,7 @@ fn show(corner: u64, d: f64) -> u64
 // The answer places of n probes.
 fn fill(n: usize, nearest: &[u64], least: &[f64], answers: &mut [u64])
     requires { ⌜ (n ≤ length (now nearest)) × (n ≤ length (now least)) × (2 * n ≤ length (now answers)) ⌝ }
-    requires { ⌜ ((i : ℕ) → i < n → Whole (getD (now least) i nan)) ⌝ }
+    requires { ⌜ ((i : ℕ) → i < n → OnSquares (getD (now least) i nan)) ⌝ }
     ensures { λ _. ⌜ FilledIn n (now (nearest .entry)) (now (least .entry)) (now (answers .entry)) (now (answers .exit)) ⌝ }
 {
     let mut i = 0;

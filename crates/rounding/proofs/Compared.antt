@@ -4,14 +4,14 @@ use mathlib.Core.Bool.{Bool, true, false, _&&_, _||_, Bool·beq, false≢true}
 use Prim.Native.Nat.{ℕ, zero, suc, _+_, _*_, _≤_, _<_}
 use native.Mathlib.Nat.{mul-pos, eq-of-mul-eq-mul-right, mul-lt-mul-of-pos-right, lt-of-mul-lt-mul-right, lt-of-not-le, not-le-of-lt, le-of-suc-le-suc, zero-mul, add-mul, le-of-lt, le-of-eq}
 use native.Mathlib.Omega.{arith}
-use lib.Dec.{eqb, ltb}
-use borrow.Author.Tests.{eqb-true, eqb-false, eq-eqb, ne-eqb, ltb-true, ltb-false, lt-ltb, le-ltb}
+use lib.Dec.{eqb, leb, ltb}
+use borrow.Author.Tests.{eqb-true, eqb-false, eq-eqb, ne-eqb, leb-true, leb-false, ltb-true, ltb-false, le-leb, lt-leb, lt-ltb, le-ltb}
 use lib.IntN.{ℤ, pos, negℤ, natAbs, pos-ne-negsuc}
 use lib.Ieee.{Float, nan, inf, fin, up, down, lt, eq, le, below, level}
 use lib.Ieee.Exact.{HasValue}
 use lib.Ieee.Fits.{down-pos}
 use Rattle.rounding.proofs.Quantum.{over-first, over-second}
-use Rattle.rounding.specs.Fraction.{signed}
+use Rattle.rounding.specs.Fraction.{signed, Is}
 
 -- ---- over one denominator
 
@@ -139,3 +139,43 @@ from-below true a b h l = most-at a b (λ e. eq-eqb b a (sym e)) l
 pub from-above : (s : Bool) (a b : ℕ) → 0 < b → a ≤ b → (below s a false b || level s a false b) ≡ true
 from-above false a b h l = most-at a b (eq-eqb a b) l
 from-above true a b h l = ap (λ (i : Bool). i || level true a false b) (lt-ltb 0 (a + b) (omega arith))
+
+-- ---- order: numbers that are not below 0
+
+less-or-same : (m n : ℕ) → (ltb m n || (eqb m n && true)) ≡ leb m n
+less-or-same m n = go (leb m n) refl
+  where
+    go : (b : Bool) → leb m n ≡ b → (ltb m n || (eqb m n && true)) ≡ leb m n
+    go true e = most-at m n (eq-eqb m n) (leb-true m n e) ∙ sym e
+    go false e =
+        let h = leb-false m n e in
+        let p = le-ltb m n (omega arith) in
+        let q = ne-eqb m n (λ d. omega arith) in
+        (λ i. p i || (q i && true)) ∙ sym e
+
+-- a zero may have either sign
+zero-first : (n : ℕ) → (below true 0 false n || level true 0 false n) ≡ true
+zero-first zero = refl
+zero-first (suc n) = ap (λ (t : Bool). t || level true 0 false (suc n)) (lt-ltb 0 (0 + suc n) (omega arith))
+
+zero-second : (m : ℕ) → (below false m true 0 || level false m true 0) ≡ leb m 0
+zero-second zero = refl
+zero-second (suc m) = let e = ne-eqb (suc m) 0 (λ h. omega arith) in (λ i. e i && e i) ∙ sym (lt-leb (suc m) 0 (omega arith))
+
+pub le-numbers : {x y : Float} {a b c : ℕ} → 0 < c → Is x (pos a) c → Is y (pos b) c → le x y ≡ leb a b
+le-numbers {x} {y} {a} {b} {c} h p q = le-values x y (p .sign) (q .sign) (p .size) (q .size) c h (p .value) (q .value) ∙ go (p .sign) (q .sign) (p .size) (q .size) (p .same) (q .same)
+  where
+    none : (n k : ℕ) → signed true n ≡ pos k → (n ≡ 0) × (k ≡ 0)
+    none zero k e = (refl, sym (ap natAbs e))
+    none (suc n) k e = absurd (pos-ne-negsuc k n (sym e))
+
+    go : (s t : Bool) (m n : ℕ) → signed s m ≡ pos a → signed t n ≡ pos b → (below s m t n || level s m t n) ≡ leb a b
+    go false false m n e f = less-or-same m n ∙ (λ i. leb (natAbs (e i)) (natAbs (f i)))
+    go true false m n e f = let z = none m a e in (λ i. below true (z .0 i) false n || level true (z .0 i) false n) ∙ zero-first n ∙ sym (ap (λ (k : ℕ). leb k b) (z .1) ∙ le-leb 0 b (omega arith))
+    go false true m n e f =
+        let z = none n b f in
+        (λ i. below false m true (z .0 i) || level false m true (z .0 i)) ∙ zero-second m ∙ (λ i. leb (natAbs (e i)) (sym (z .1) i))
+    go true true m n e f =
+        let y = none m a e in
+        let z = none n b f in
+        (λ i. below true (y .0 i) true (z .0 i) || level true (y .0 i) true (z .0 i)) ∙ (λ i. leb (sym (y .1) i) (sym (z .1) i))

@@ -1,23 +1,25 @@
 //! Prints the tables of docs/FIGURES.md:
-//! `cargo run --release -p bench -- [root] [check] [closing] [edit] [improve] [price]`.
+//! `cargo run --release -p bench -- [root] [check] [closing] [edit] [improve] [price] [nearest]`.
 //! Each table sets ours and theirs side by side, measured in this one run; where the original's
 //! source was not there, its times are those of doing nothing.
 mod check;
 mod closing;
 mod edit;
 mod improve;
+mod nearest;
 mod price;
 mod root;
 mod table;
 
 /// A table's name and what prints it.
-const TABLES: [(&str, fn()); 6] = [
+const TABLES: [(&str, fn()); 7] = [
     ("root", root::table),
     ("check", check::table),
     ("closing", closing::table),
     ("edit", edit::table),
     ("improve", improve::table),
     ("price", price::table),
+    ("nearest", nearest::table),
 ];
 
 fn main() {

@@ -31,6 +31,12 @@ pub struct Call {
     pub uppers: Vec<u64>,
     /// The price sheet's prices, one a step.
     pub prices: Vec<u64>,
+    /// Three values a probe.
+    pub probes: Vec<f64>,
+    /// What the probes are answered, two words each.
+    pub answers: Vec<u64>,
+    /// How many probes are answered.
+    pub count: [u32; 1],
     /// Quality and volume.
     pub numbers: [f64; 2],
     /// The price.
@@ -50,6 +56,7 @@ impl Call {
             work: filling(work_words),
             numbers: [f64::NAN, -1.5],
             cents: [12],
+            count: [13],
             answer: [7, 8, 9],
             place: [10, 11],
             ..Self::default()
@@ -86,6 +93,9 @@ impl Call {
         same("powers", &self.powers, &wanted.powers)?;
         same("uppers", &self.uppers, &wanted.uppers)?;
         same("prices", &self.prices, &wanted.prices)?;
+        same("probes", &self.probes, &wanted.probes)?;
+        same("answers", &self.answers, &wanted.answers)?;
+        same("count", &self.count, &wanted.count)?;
         same("numbers", &self.numbers, &wanted.numbers)?;
         same("cents", &self.cents, &wanted.cents)?;
         same("answer", &self.answer, &wanted.answer)

@@ -11,6 +11,7 @@ pub mod editing;
 pub mod finder;
 pub mod history;
 pub mod improving;
+pub mod nearest;
 pub mod price;
 pub mod questions;
 pub mod random;

@@ -119,20 +119,12 @@ fn on_units(random: &mut Random) -> (Call, usize) {
     }
     match random.below(72) {
         0..9 => damage::some(&mut surface, random, 1),
-        9..15 => put_off(&mut surface, random),
+        9..15 => whole::put_off(&mut surface.points, random),
         15 => damage::grow_to_the_limit(&mut surface, random),
         _ => {}
     }
     let words = checking::some_work_words(&surface, random);
     (Call::new(surface, words), (six / CUBE) as usize)
-}
-
-/// Puts a coordinate off the units or the range.
-fn put_off(surface: &mut Surface, random: &mut Random) {
-    let place = random.below(surface.points.len());
-    let beyond = (MOST + 1) as f64 / 1024.0;
-    let half = surface.points[place] + 0.5 / 1024.0;
-    surface.points[place] = random.pick(&[beyond, -beyond, half]);
 }
 
 /// Adds pieces up to a whole number of unit cubes, where there is room for them; often with the

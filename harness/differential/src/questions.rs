@@ -38,6 +38,14 @@ pub fn on_the_list(surface: &Surface, triangle: &[u32; 3]) -> Result<(), No> {
     )
 }
 
+/// Whether all corners are on the list: 5.
+pub fn all_on_the_list(surface: &Surface) -> Result<(), No> {
+    surface
+        .triangles()
+        .iter()
+        .try_for_each(|triangle| on_the_list(surface, triangle))
+}
+
 /// (b) and (c): 31 to 33. The finder must find nothing where the rules hold, and only there.
 pub fn sides_and_rings(surface: &Surface) -> Result<(), No> {
     let triangles = surface.triangles();
@@ -52,9 +60,7 @@ pub fn editing(surface: &Surface, work_words: usize) -> Result<(), No> {
     first(surface, work_words)?;
     let triangles = surface.triangles();
     ask(surface.labels.iter().all(|&label| label <= 7), 9)?;
-    triangles
-        .iter()
-        .try_for_each(|triangle| on_the_list(surface, triangle))?;
+    all_on_the_list(surface)?;
     ask(triangles.iter().all(closed::corners_differ), 10)?;
     let mut carried = vec![0u8; surface.point_count()];
     for (triangle, label) in triangles.iter().zip(&surface.labels) {

@@ -9,10 +9,10 @@ use crate::{
 use std::cmp::Reverse;
 
 /// The lowest and the highest value on an axis.
-type Span = [i64; 2];
+pub type Span = [i64; 2];
 
 /// The whole range.
-const RANGE: Span = [-MOST, MOST];
+pub const RANGE: Span = [-MOST, MOST];
 
 /// How often a surface is drawn at most, before a plain one is taken.
 const DRAWS: u64 = 100;
@@ -150,7 +150,7 @@ fn drawn(random: &mut Random, triangles: usize) -> Surface {
 }
 
 /// Any part of the range, often a small one.
-fn some_part(random: &mut Random) -> [Span; 3] {
+pub fn some_part(random: &mut Random) -> [Span; 3] {
     let longest = random.pick(&[8, 64, 1_024, 2 * MOST, 2 * MOST]);
     [0; 3].map(|_| {
         let side = between(random, [1, longest]);
@@ -159,7 +159,8 @@ fn some_part(random: &mut Random) -> [Span; 3] {
     })
 }
 
-fn between(random: &mut Random, [low, high]: Span) -> i64 {
+/// A value of a span.
+pub fn between(random: &mut Random, [low, high]: Span) -> i64 {
     low + random.below((high - low + 1) as usize) as i64
 }
 
@@ -168,12 +169,12 @@ fn anywhere(random: &mut Random, part: [Span; 3]) -> Point {
 }
 
 /// Points anywhere in a part of the range.
-fn scattered(random: &mut Random, count: usize, part: [Span; 3]) -> Vec<Point> {
+pub fn scattered(random: &mut Random, count: usize, part: [Span; 3]) -> Vec<Point> {
     (0..count).map(|_| anywhere(random, part)).collect()
 }
 
 /// Points near the corners of the range, or some of them near its sides and walls.
-fn near_ends(random: &mut Random, count: usize) -> Vec<Point> {
+pub fn near_ends(random: &mut Random, count: usize) -> Vec<Point> {
     let farthest = random.pick(&[0, 4, 30, 300]);
     let corners = random.one_in(2);
     let mut coordinate = || {
@@ -195,6 +196,15 @@ fn fitted(shape: &Surface, part: [Span; 3]) -> Vec<Point> {
     points
         .map(|p| std::array::from_fn(|axis| fit(p[axis], part[axis])))
         .collect()
+}
+
+/// Puts one of the values off the units or the range.
+pub fn put_off(values: &mut [f64], random: &mut Random) {
+    let place = random.below(values.len());
+    let beyond = (MOST + 1) as f64 / 1024.0;
+    let half = values[place] + 0.5 / 1024.0;
+    let next = values[place].next_up();
+    values[place] = random.pick(&[beyond, -beyond, half, next]);
 }
 
 /// Points in units as they are lent.

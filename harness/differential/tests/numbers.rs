@@ -10,7 +10,7 @@ fn check(surface: Surface) -> Refusal {
     check_with(&mut work, surface)
 }
 
-/// Why checking refuses a surface, and pricing too.
+/// Why checking refuses a surface, and pricing too; up to 5, so does probing.
 fn check_with(work: &mut [u32], surface: Surface) -> Refusal {
     let Surface {
         points,
@@ -19,6 +19,9 @@ fn check_with(work: &mut [u32], surface: Surface) -> Refusal {
     } = &surface;
     let refusal = lanovishel::check(points, corners, labels, work).unwrap_err();
     assert_eq!(price_with(work, &surface, &[1]), refusal);
+    if refusal.number().get() <= 5 {
+        assert_eq!(nearest_with(work, &surface, &[]), refusal);
+    }
     refusal
 }
 
@@ -38,6 +41,20 @@ fn price_with(work: &mut [u32], surface: &Surface, prices: &[u64]) -> Refusal {
         labels,
     } = surface;
     lanovishel::price(points, corners, labels, work, &tariff).unwrap_err()
+}
+
+fn nearest(surface: Surface, probes: &[f64]) -> Refusal {
+    let mut work = vec![1; surface.work_words()];
+    nearest_with(&mut work, &surface, probes)
+}
+
+fn nearest_with(work: &mut [u32], surface: &Surface, probes: &[f64]) -> Refusal {
+    let Surface {
+        points,
+        corners,
+        labels,
+    } = surface;
+    lanovishel::nearest(points, corners, labels, work, probes, &mut [1; 2]).unwrap_err()
 }
 
 fn edit(mut surface: Surface, entries: &[u32]) -> Refusal {
@@ -97,6 +114,7 @@ fn each_has_its_name() {
         check(but(|s| s.double(0))),
         check(but(|s| s.remove(3))),
         check(touching()),
+        nearest(tetrahedron(), &[0.1; 3]),
         price(tetrahedron(), &[]),
     ];
     let rows: Vec<&str> = NUMBERS
@@ -113,7 +131,7 @@ fn each_has_its_name() {
     }
 }
 
-/// Holds what each of the four functions says of a surface to one refusal.
+/// Holds what each of the four functions that ask for a closed surface says to one refusal.
 fn assert_all(surface: Surface, refusal: Refusal) {
     assert_eq!(check(surface.clone()), refusal);
     assert_eq!(price(surface.clone(), &[1]), refusal);

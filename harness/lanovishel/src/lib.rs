@@ -5,6 +5,7 @@
 mod check;
 mod edit;
 mod improve;
+mod nearest;
 mod price;
 mod refusal;
 mod root;
@@ -14,6 +15,7 @@ pub mod raw;
 pub use check::{Measured, check, work_words};
 pub use edit::{Edited, edit};
 pub use improve::{Field, Improved, improve};
+pub use nearest::{NO_CORNER, nearest};
 pub use price::{Tariff, price};
 pub use refusal::Refusal;
 pub use root::sqrt;

@@ -79,4 +79,21 @@ unsafe extern "C" {
         cents: *mut [u64; 1],
         place: *mut [u32; 2],
     ) -> u32;
+
+    /// The nearest corners; see [`crate::nearest`].
+    pub fn lanovishel_nearest(
+        points: *const f64,
+        point_values: usize,
+        corners: *const u32,
+        corner_numbers: usize,
+        labels: *const u8,
+        label_count: usize,
+        work: *mut u32,
+        work_words: usize,
+        probes: *const f64,
+        probe_values: usize,
+        answers: *mut u64,
+        answer_words: usize,
+        count: *mut [u32; 1],
+    ) -> u32;
 }

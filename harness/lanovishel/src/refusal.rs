@@ -8,7 +8,8 @@ macro_rules! refusals {
         /// Why a call is refused: the first of the questions that its lists do not pass, and the
         /// place where a surface is open.
         ///
-        /// A refused call leaves points, corners, labels, verdict words and journal as they were.
+        /// A refused call leaves points, corners, labels, verdict words and journal as they were, and
+        /// 0 in a list that is lent for answers alone.
         #[derive(Clone, Copy, Debug, PartialEq, Eq, Hash)]
         #[non_exhaustive]
         pub enum Refusal {
@@ -85,6 +86,7 @@ refusals! {
         /// The smallest such corner.
         corner: 0
     } "the triangles around corner {corner} are more than one ring"
+    42 Probes "probes are not in threes, more than 64 or more than the answer places, or a coordinate is not in whole 1/1024 within ±32"
     47 NoPrice "a coordinate is not in whole 1/1024 within ±32, or the price sheet is not as it must be"
 }
 

@@ -1,4 +1,4 @@
--- `nearest::ask` meets its contract: each way out is a question (`proofs/Answers`). Assumes nothing.
+-- `nearest::ask` meets its contract: each way out is a question (`proofs/Questions`). Assumes nothing.
 use mathlib.Core.Path.{_≡_, sym, ap, _∙_}
 use native.Mathlib.Omega.{arith}
 use Prim.Native.Nat.{_/_}
@@ -10,7 +10,7 @@ use Rattle.questions.specs.Questions.{lentQuestions, cleared, lentWords}
 use Rattle.questions.specs.declared.Asked.{Asked}
 use Rattle.questions.specs.declared.Asked.the-variants.{Passed}
 use Rattle.questions.proofs.Counted.{Counted, lent-passed}
-use Rattle.nearest.proofs.Answers.{at-first, at-five, at-last, at-end}
+use Rattle.nearest.proofs.Questions.{at-first, at-five, at-last, at-end}
 use borrow.Author.Needs.{needs}
 use Rattle.nearest.proofs.ask.Statement.{statement}
 use Rattle.nearest.proofs.ask.Tie as tie

@@ -3,7 +3,7 @@ use mathlib.Core.Path.{refl, sym, _∙_}
 use borrow.Author.Needs.{needs}
 use borrow.Author.Tests.{not-true, not-false}
 use Rattle.units.proofs.Tests.{on-units-test}
-use Rattle.nearest.proofs.Answers.{not-threes, too-many, no-places, asked-units}
+use Rattle.nearest.proofs.Questions.{not-threes, too-many, no-places, asked-units}
 use Rattle.nearest.proofs.askable.Statement.{statement}
 use Rattle.nearest.proofs.askable.Tie as tie
 

@@ -4,19 +4,19 @@ use mathlib.Core.Path.{_≡_}
 use native.Mathlib.Omega.{arith}
 use lib.ListN.{length, getD}
 use lib.Ieee.{nan}
-use Rattle.nearest.specs.Stages.{Whole, FilledIn, shown}
+use Rattle.nearest.specs.Stages.{OnSquares, FilledIn, shown}
 use mathlib.Core.Path.{refl, _∙_, subst}
 use lib.ListN.{set, length-set}
 use denote.Ref.{now}
 use Rattle.halfedges.specs.Place.{at}
 use Rattle.nearest.proofs.Places.{none-set, place-set}
-use borrow.Author.Needs.{needs}
+use borrow.Author.Needs.{needs, below-set}
 use Rattle.nearest.proofs.fill.Statement.{statement}
 use Rattle.nearest.proofs.fill.Tie as tie
 
 abbrev Inv-loop : tie.InvT-loop
 Inv-loop n nearest least answers₀ i₀ answers i =
-    (n ≤ length nearest) × (n ≤ length least) × (2 * n ≤ length answers₀) × ((k : ℕ) → k < n → Whole (getD least k nan)) × (i ≤ n) × (length answers ≡ length answers₀) × (FilledIn i nearest least answers₀ answers)
+    (n ≤ length nearest) × (n ≤ length least) × (2 * n ≤ length answers₀) × ((k : ℕ) → k < n → OnSquares (getD least k nan)) × (i ≤ n) × (length answers ≡ length answers₀) × (FilledIn i nearest least answers₀ answers)
 
 abbrev μ-loop : tie.MeasureT-loop
 μ-loop n nearest least answers₀ i₀ answers i = n - i
@@ -61,9 +61,8 @@ slice-write-answers-2 : tie.Need-slice-write-answers-2 Inv-loop μ-loop
 slice-write-answers-2 c =
     let t = c .before .before .before in
     let l = t .before .loop in
-    let e = length-set (l .answers) (2 * l .i) (at (now (t .before .before .before .before .before .args .nearest)) (l .i)) in
     let h = t .loop-test .taken in
-    omega (arith, l .inv .2, l .inv .5)
+    below-set ℕ (l .answers) (2 * l .i + 1) (2 * l .i) _ (omega (arith, l .inv .2, l .inv .5))
 
 add-i : tie.Need-add-i Inv-loop μ-loop
 add-i c = search needs

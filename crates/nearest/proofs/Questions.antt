@@ -15,11 +15,12 @@ use Rattle.surface.proofs.All.{all-at}
 use Rattle.closing.specs.Closing.{Lent}
 use Rattle.closing.proofs.Whole.{lent-again}
 use Rattle.questions.specs.Questions.{ask, andThen, lentQuestions, listed?, needed, cleared, lentWords}
+use Rattle.questions.specs.Refusal.{askedNumber}
 use Rattle.questions.specs.declared.Refusal.{Refusal}
 use Rattle.questions.specs.declared.Refusal.the-variants.{Question}
 use Rattle.questions.specs.declared.Asked.{Asked}
 use Rattle.questions.specs.declared.Asked.the-variants.{Passed, Refused}
-use Rattle.questions.proofs.Counted.{lent-passed, not-both}
+use Rattle.questions.proofs.Counted.{Counted, FirstFour, early, infinite, passes, first-four, not-both}
 use Rattle.units.specs.Units.{allOnUnits?}
 use Rattle.units.proofs.Tests.{all-on-units-iff}
 use Rattle.nearest.specs.Nearest.{answered}
@@ -100,13 +101,23 @@ module _ (points : List Float) (corners labels work : List ℕ) (probes : List F
 
   -- what is known where all are passed
   pub record Admitted : Type 0 where
+    pub first : lentQuestions points corners labels work ≡ Passed
+    pub listed : listed? (length points / 3) corners ≡ true
     pub lent : Lent corners (length points / 3) work
     pub askable : Askable points probes room
 
-  admitted-by : lentQuestions points corners labels work ≡ Passed → listed? (length points / 3) corners ≡ true → askable? points probes room ≡ true → Admitted
-  admitted-by q a b =
-      let c = lent-passed points corners labels work q .0 in
-      record {
+  -- a question refuses, by a number that is not 0, or all are passed
+  pub data Ending : Type 0 where
+    stopped : (n : ℕ) → 1 ≤ n → nearestQuestions points corners labels work probes room ≡ Refused (Question n) → Ending
+    passed : Admitted → nearestQuestions points corners labels work probes room ≡ Passed → Ending
+
+  ending : Ending
+  ending = go (first-four points corners labels work) (listed? (length points / 3) corners) refl (askable? points probes room) refl
+    where
+      known : lentQuestions points corners labels work ≡ Passed → Counted points corners labels work → listed? (length points / 3) corners ≡ true → askable? points probes room ≡ true → Admitted
+      known e c a b = record {
+        first = e;
+        listed = a;
         lent = record {
           thirds = c .corners;
           few = omega (arith, c .corners, c .few-triangles);
@@ -117,14 +128,26 @@ module _ (points : List Float) (corners labels work : List ℕ) (probes : List F
         askable = passed-askable points probes room b;
       }
 
+      go : FirstFour points corners labels work → (a : Bool) → listed? (length points / 3) corners ≡ a → (b : Bool) → askable? points probes room ≡ b → Ending
+      go (early n p q e) a r b s = stopped n p (by-answers e r s)
+      go (infinite c f e) a r b s = stopped 4 (omega arith) (by-answers e r s)
+      go (passes c f e) false r b s = stopped 5 (omega arith) (by-answers e r s)
+      go (passes c f e) true r false s = stopped 42 (omega arith) (by-answers e r s)
+      go (passes c f e) true r true s = passed (known e c r s) (by-answers e r s)
+
   pub admitted : nearestQuestions points corners labels work probes room ≡ Passed → Admitted
-  admitted e = go (lentQuestions points corners labels work) refl (listed? (length points / 3) corners) refl (askable? points probes room) refl
+  admitted e = go ending
     where
-      go : (q : Asked) → lentQuestions points corners labels work ≡ q → (a : Bool) → listed? (length points / 3) corners ≡ a → (b : Bool) → askable? points probes room ≡ b → Admitted
-      go (Refused why) q a r b s = absurd (not-both e (by-answers q r s))
-      go Passed q false r b s = absurd (not-both e (by-answers q r s))
-      go Passed q true r false s = absurd (not-both e (by-answers q r s))
-      go Passed q true r true s = admitted-by q r s
+      go : Ending → Admitted
+      go (stopped n h f) = absurd (not-both e f)
+      go (passed a f) = a
+
+  pub zero-passed : askedNumber (nearestQuestions points corners labels work probes room) ≡ 0 → nearestQuestions points corners labels work probes room ≡ Passed
+  zero-passed z = go ending
+    where
+      go : Ending → nearestQuestions points corners labels work probes room ≡ Passed
+      go (stopped n h f) = let e : n ≡ 0 = sym (ap askedNumber f) ∙ z in absurd (omega arith)
+      go (passed a f) = f
 
 -- ---- the list of answers
 
