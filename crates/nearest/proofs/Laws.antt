@@ -19,7 +19,7 @@ use Rattle.nearest.specs.Laws.{Closest, cornerAt, distanceAt, Answers, N
 use Rattle.nearest.proofs.Best.{Outcome, none, one, outcome}
 use Rattle.nearest.proofs.Use.{used-iff, first-used, on-list}
 use Rattle.nearest.proofs.Places.{at-place, past-places}
-use Rattle.nearest.proofs.Questions.{askable-iff, at-end, admitted}
+use Rattle.nearest.proofs.Questions.{askable-iff, at-end, at-later, admitted}
 
 -- ---- one probe
 
@@ -135,7 +135,8 @@ alone-passes : (points : List Float) (corners labels work : List ℕ) (probes : 
     → (i : ℕ) → i < length probes / 3 → 2 ≤ words′ → nearestQuestions points corners labels work (take 3 (drop (3 * i) probes)) words′ ≡ Passed
 alone-passes points corners labels work probes words words′ e i h w =
     let g = admitted points corners labels work probes words e in
-    sym (at-end points corners labels work (take 3 (drop (3 * i) probes)) words′ (g .first) (g .listed) (askable-iff points (take 3 (drop (3 * i) probes)) words′ .1 (single-askable points probes words words′ (g .askable) i h w)))
+    let l = take 3 (drop (3 * i) probes) in
+    sym (at-later points corners labels work l words′ (g .first) (sym (at-end points corners l words′ (g .listed) (askable-iff points l words′ .1 (single-askable points probes words words′ (g .askable) i h w)))))
 
 -- what has the answers of a call has their laws
 pub nearest-laws-of : (Says : List Float → List ℕ → List Float → List ℕ → Type 0) → ((points : List Float) (corners : List ℕ) (probes : List Float) (answers : List ℕ) → Says points corners probes answers → Answers points corners probes answers)

@@ -14,17 +14,17 @@ use Rattle.surface.proofs.Bools.{both}
 use Rattle.surface.proofs.All.{all-at}
 use Rattle.closing.specs.Closing.{Lent}
 use Rattle.closing.proofs.Whole.{lent-again}
-use Rattle.questions.specs.Questions.{ask, andThen, lentQuestions, listed?, needed, cleared, lentWords}
-use Rattle.questions.specs.Refusal.{askedNumber}
+use Rattle.questions.specs.Questions.{ask, andThen, lentQuestions, listed?, needed, cleared, workAfter, lentWords}
+use Rattle.questions.specs.Refusal.{refusalNumber, askedNumber}
 use Rattle.questions.specs.declared.Refusal.{Refusal}
 use Rattle.questions.specs.declared.Refusal.the-variants.{Question}
 use Rattle.questions.specs.declared.Asked.{Asked}
 use Rattle.questions.specs.declared.Asked.the-variants.{Passed, Refused}
-use Rattle.questions.proofs.Counted.{Counted, FirstFour, early, infinite, passes, first-four, not-both}
+use Rattle.questions.proofs.Counted.{Counted, FirstFour, early, infinite, passes, first-four, not-both, words-late}
 use Rattle.units.specs.Units.{allOnUnits?}
 use Rattle.units.proofs.Tests.{all-on-units-iff}
 use Rattle.nearest.specs.Nearest.{answered}
-use Rattle.nearest.specs.Call.{Askable, askable?, nearestQuestions, Replies}
+use Rattle.nearest.specs.Call.{Askable, askable?, laterQuestions, nearestQuestions, Replies}
 use Rattle.nearest.specs.Stages.{Asks, Measured}
 
 -- ---- question 42
@@ -78,26 +78,46 @@ module _ (points probes : List Float) (words : ℕ) where
         by-tests (eq-eqb (length probes % 3) 0 (h .threes)) (le-leb (length probes / 3) 64 (h .few)) (le-leb (length probes / 3) (words / 2) (h .places)) (all-on-units-iff probes .1 (h .whole-probes)) (all-on-units-iff points .1 (h .whole-points)),
   )
 
+-- ---- questions 5 and 42
+
+module _ (points : List Float) (corners : List ℕ) (probes : List Float) (room : ℕ) where
+  by-tests-later : {a b : Bool} → listed? (length points / 3) corners ≡ a → askable? points probes room ≡ b → laterQuestions points corners probes room ≡ ask a 5 (ask b 42 Passed)
+  unfolding laterQuestions
+  by-tests-later p q = λ i. ask (p i) 5 (ask (q i) 42 Passed)
+
+  pub at-five : listed? (length points / 3) corners ≡ false → Refused (Question 5) ≡ laterQuestions points corners probes room
+  at-five a = sym (by-tests-later a refl)
+
+  pub at-last : listed? (length points / 3) corners ≡ true → askable? points probes room ≡ false → Refused (Question 42) ≡ laterQuestions points corners probes room
+  at-last a b = sym (by-tests-later a b)
+
+  pub at-end : listed? (length points / 3) corners ≡ true → askable? points probes room ≡ true → Passed ≡ laterQuestions points corners probes room
+  at-end a b = sym (by-tests-later a b)
+
+  -- they come after question 3, so that the words are cleared where one of them refuses
+  pub later-words : (work : List ℕ) {why : Refusal} → laterQuestions points corners probes room ≡ Refused why → cleared (needed points corners) work ≡ workAfter (refusalNumber why) points corners work
+  later-words work {why} e = words-late points corners work (refusalNumber why) (go (listed? (length points / 3) corners) refl (askable? points probes room) refl)
+    where
+      late : (n : ℕ) → Refused why ≡ Refused (Question n) → (leb 1 n && leb n 3) ≡ false → (leb 1 (refusalNumber why) && leb (refusalNumber why) 3) ≡ false
+      late n f g = ap (λ (a : Asked). leb 1 (askedNumber a) && leb (askedNumber a) 3) f ∙ g
+
+      go : (a : Bool) → listed? (length points / 3) corners ≡ a → (b : Bool) → askable? points probes room ≡ b → (leb 1 (refusalNumber why) && leb (refusalNumber why) 3) ≡ false
+      go false p b q = late 5 (sym e ∙ by-tests-later p q) refl
+      go true p false q = late 42 (sym e ∙ by-tests-later p q) refl
+      go true p true q = absurd (not-both (by-tests-later p q) e)
+
 -- ---- all questions
 
 module _ (points : List Float) (corners labels work : List ℕ) (probes : List Float) (room : ℕ) where
-  by-answers : {q : Asked} {a b : Bool} → lentQuestions points corners labels work ≡ q → listed? (length points / 3) corners ≡ a → askable? points probes room ≡ b
-      → nearestQuestions points corners labels work probes room ≡ andThen q (ask a 5 (ask b 42 Passed))
+  by-answers : {q r : Asked} → lentQuestions points corners labels work ≡ q → laterQuestions points corners probes room ≡ r → nearestQuestions points corners labels work probes room ≡ andThen q r
   unfolding nearestQuestions
-  by-answers q a b = λ i. andThen (q i) (ask (a i) 5 (ask (b i) 42 Passed))
+  by-answers q r = λ i. andThen (q i) (r i)
 
   pub at-first : {why : Refusal} → lentQuestions points corners labels work ≡ Refused why → Refused why ≡ nearestQuestions points corners labels work probes room
-  at-first q = sym (by-answers q refl refl)
+  at-first q = sym (by-answers q refl)
 
-  module _ (q : lentQuestions points corners labels work ≡ Passed) where
-    pub at-five : listed? (length points / 3) corners ≡ false → Refused (Question 5) ≡ nearestQuestions points corners labels work probes room
-    at-five a = sym (by-answers q a refl)
-
-    pub at-last : listed? (length points / 3) corners ≡ true → askable? points probes room ≡ false → Refused (Question 42) ≡ nearestQuestions points corners labels work probes room
-    at-last a b = sym (by-answers q a b)
-
-    pub at-end : listed? (length points / 3) corners ≡ true → askable? points probes room ≡ true → Passed ≡ nearestQuestions points corners labels work probes room
-    at-end a b = sym (by-answers q a b)
+  pub at-later : {r : Asked} → lentQuestions points corners labels work ≡ Passed → laterQuestions points corners probes room ≡ r → r ≡ nearestQuestions points corners labels work probes room
+  at-later q r = sym (by-answers q r)
 
   -- what is known where all are passed
   pub record Admitted : Type 0 where
@@ -129,11 +149,11 @@ module _ (points : List Float) (corners labels work : List ℕ) (probes : List F
       }
 
       go : FirstFour points corners labels work → (a : Bool) → listed? (length points / 3) corners ≡ a → (b : Bool) → askable? points probes room ≡ b → Ending
-      go (early n p q e) a r b s = stopped n p (by-answers e r s)
-      go (infinite c f e) a r b s = stopped 4 (omega arith) (by-answers e r s)
-      go (passes c f e) false r b s = stopped 5 (omega arith) (by-answers e r s)
-      go (passes c f e) true r false s = stopped 42 (omega arith) (by-answers e r s)
-      go (passes c f e) true r true s = passed (known e c r s) (by-answers e r s)
+      go (early n p q e) a r b s = stopped n p (by-answers e refl)
+      go (infinite c f e) a r b s = stopped 4 (omega arith) (by-answers e refl)
+      go (passes c f e) false r b s = stopped 5 (omega arith) (by-answers e (by-tests-later points corners probes room r s))
+      go (passes c f e) true r false s = stopped 42 (omega arith) (by-answers e (by-tests-later points corners probes room r s))
+      go (passes c f e) true r true s = passed (known e c r s) (by-answers e (by-tests-later points corners probes room r s))
 
   pub admitted : nearestQuestions points corners labels work probes room ≡ Passed → Admitted
   admitted e = go ending

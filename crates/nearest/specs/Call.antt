@@ -28,13 +28,14 @@ unfolding every
 askable? points probes words =
     eqb (length probes % 3) 0 && (leb (length probes / 3) 64 && (leb (length probes / 3) (words / 2) && (allOnUnits? probes && allOnUnits? points)))
 
--- All questions, in turn.
+-- Questions 5 and 42, and 1 to 4 before them.
+unfoldable pub laterQuestions : (points : List Float) (corners : List ℕ) (probes : List Float) (words : ℕ) → Asked
+unfolding every askable?
+laterQuestions points corners probes words = ask (listed? (length points / 3) corners) 5 (ask (askable? points probes words) 42 Passed)
+
 unfoldable pub nearestQuestions : (points : List Float) (corners labels work : List ℕ) (probes : List Float) (words : ℕ) → Asked
-unfolding lentQuestions every askable?
-nearestQuestions points corners labels work probes words =
-    andThen (lentQuestions points corners labels work)
-    (ask (listed? (length points / 3) corners) 5
-    (ask (askable? points probes words) 42 Passed))
+unfolding lentQuestions laterQuestions
+nearestQuestions points corners labels work probes words = andThen (lentQuestions points corners labels work) (laterQuestions points corners probes words)
 
 -- how many answer places are filled
 abbrev pub filled : Asked → List Float → ℕ

@@ -9,7 +9,7 @@ ghost use lib.ListN.{length, getD, replicate};
 ghost use lib.Ieee.{nan};
 ghost use Rattle.float.specs.Point.{difference, dotted};
 ghost use Rattle.closing.specs.Closing.{Lent};
-ghost use Rattle.nearest.specs.Call.{Askable, askable?, Replies};
+ghost use Rattle.nearest.specs.Call.{Askable, askable?, laterQuestions, Replies};
 ghost use Rattle.nearest.specs.Stages.{Asks, Laid, Keeps, Considered, OnSquares, shown, FilledIn, Measured};
 
 // Every word becomes 0.
@@ -42,7 +42,20 @@ fn askable(points: &[f64], probes: &[f64], words: usize) -> bool
     units::on_units(points)
 }
 
-// Questions 1 to 5, then 42.
+// Questions 5 and 42.
+fn later(points: &[f64], corners: &[u32], probes: &[f64], words: usize) -> Asked
+    ensures { λ r. ⌜ r ≡ laterQuestions (now (points .entry)) (now (corners .entry)) (now (probes .entry)) words ⌝ }
+{
+    if !questions::corners_listed(corners, points.len() / 3) {
+        return Asked::Refused(Refusal::Question(5));
+    }
+    if !askable(points, probes, words) {
+        return Asked::Refused(Refusal::Question(42));
+    }
+    Asked::Passed
+}
+
+// All questions. Where one refuses, the work words are as after its number.
 fn ask(
     points: &[f64],
     corners: &[u32],
@@ -56,13 +69,9 @@ fn ask(
     if let Asked::Refused(why) = questions::lent(points, corners, labels, work) {
         return Asked::Refused(why);
     }
-    if !questions::corners_listed(corners, points.len() / 3) {
+    if let Asked::Refused(why) = later(points, corners, probes, words) {
         closing::clear_needed(corners, points.len() / 3, work);
-        return Asked::Refused(Refusal::Question(5));
-    }
-    if !askable(points, probes, words) {
-        closing::clear_needed(corners, points.len() / 3, work);
-        return Asked::Refused(Refusal::Question(42));
+        return Asked::Refused(why);
     }
     Asked::Passed
 }

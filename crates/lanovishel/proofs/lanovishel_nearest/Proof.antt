@@ -5,6 +5,7 @@ use mathlib.Core.List.{List, [], _∷_}
 use native.Mathlib.Omega.{arith}
 use lib.ListN.{length}
 use lib.Ieee.{Float}
+use borrow.Author.Needs.{needs}
 use Rattle.questions.specs.Questions.{workAfter}
 use Rattle.questions.specs.Refusal.{askedNumber}
 use Rattle.questions.specs.declared.Asked.{Asked}
@@ -12,7 +13,6 @@ use Rattle.questions.specs.declared.Asked.the-variants.{Passed}
 use Rattle.nearest.specs.Call.{filled, answersAfter, Replies}
 use Rattle.nearest.proofs.Questions.{admitted}
 use Rattle.lanovishel.specs.Nearest.{NearestCall}
-use borrow.Author.Needs.{needs}
 use Rattle.lanovishel.proofs.lanovishel_nearest.Statement.{statement}
 use Rattle.lanovishel.proofs.lanovishel_nearest.Tie as tie
 

@@ -1,17 +1,16 @@
--- `nearest::ask` meets its contract: each way out is a question (`proofs/Questions`). Assumes nothing.
+-- `nearest::ask` meets its contract: questions 1 to 4 refuse, or 5 and 42, and then the words are cleared. Assumes nothing.
+use Prim.Native.Nat.{_/_}
 use mathlib.Core.Path.{_≡_, sym, ap, _∙_}
 use native.Mathlib.Omega.{arith}
-use Prim.Native.Nat.{_/_}
 use lib.ListN.{length}
 use denote.Ref.{now}
-use borrow.Author.Tests.{not-true, not-false}
+use borrow.Author.Needs.{needs}
 use Rattle.closing.specs.Closing.{needed}
 use Rattle.questions.specs.Questions.{lentQuestions, cleared, lentWords}
 use Rattle.questions.specs.declared.Asked.{Asked}
 use Rattle.questions.specs.declared.Asked.the-variants.{Passed}
 use Rattle.questions.proofs.Counted.{Counted, lent-passed}
-use Rattle.nearest.proofs.Questions.{at-first, at-five, at-last, at-end}
-use borrow.Author.Needs.{needs}
+use Rattle.nearest.proofs.Questions.{later-words, at-first, at-later}
 use Rattle.nearest.proofs.ask.Statement.{statement}
 use Rattle.nearest.proofs.ask.Tie as tie
 
@@ -32,8 +31,9 @@ counted : (e : tie.After-enum-told) →
     Counted (now (s .args .points)) (now (s .args .corners)) (now (s .args .labels)) (now (s .args .work))
 counted e = lent-passed _ _ _ _ (passes e) .0
 
-kept : (e : tie.After-enum-told) → asked e .lent .last .1 .1 .1 .0 ≡ now (start (asked e) .args .work)
-kept e = let s = start (asked e) in asked e .lent .ensures .words ∙ ap (λ (a : Asked). lentWords a (now (s .args .points)) (now (s .args .corners)) (now (s .args .work))) (e .enum-told .given .1)
+-- the words after questions 1 to 4, by what they come to
+left : (l : tie.After-lent) {a : Asked} → l .lent .result ≡ a → l .lent .last .1 .1 .1 .0 ≡ lentWords a (now (start l .args .points)) (now (start l .args .corners)) (now (start l .args .work))
+left l e = let s = start l in l .lent .ensures .words ∙ ap (λ (a : Asked). lentWords a (now (s .args .points)) (now (s .args .corners)) (now (s .args .work))) e
 
 lent-requires : tie.Need-lent-requires
 lent-requires c κs = search needs
@@ -45,17 +45,23 @@ same-length : tie.Need-same-length
 same-length c = search needs
 
 returns : tie.Need-returns
-returns c = let e = c .before .before .before .before .before in record { answer = at-first _ _ _ _ _ _ (sym (e .lent .ensures .answer) ∙ c .before .why .given .1); words = e .lent .ensures .words ∙ ap (λ (a : Asked). lentWords a (now (start e .args .points)) (now (start e .args .corners)) (now (start e .args .work))) (c .before .why .given .1) }
+returns c =
+    let l = c .before .before .before .before .before in
+    let e = c .before .why .given .1 in
+    record { answer = at-first _ _ _ _ _ _ (sym (l .lent .ensures .answer) ∙ e); words = left l e }
 
 enum-told : tie.Need-enum-told
 enum-told c = search needs
 
-corners-listed-requires : tie.Need-corners-listed-requires
-corners-listed-requires c κs = search needs
+later-requires : tie.Need-later-requires
+later-requires c κs = search needs
+
+enum-known-why-2 : tie.Need-enum-known-why-2
+enum-known-why-2 c = search needs
 
 clear-needed-requires : tie.Need-clear-needed-requires
 clear-needed-requires c κs =
-    let e = c .before .before .before in
+    let e = c .before .before .before .before .before in
     let g = counted e in
     (omega (arith, g .corners, g .few-triangles), g .few-points, omega (arith, g .room, asked e .lent .kept .1 .1 .1 .0))
 
@@ -65,51 +71,27 @@ same-length-2 c = search needs
 returns-2 : tie.Need-returns-2
 returns-2 c =
     let d = c .before .before in
-    let t = d .before .before in
-    let k = t .before in
+    let y = d .before .before .before in
+    let k = y .before .before in
     let e = k .before in
     let s = start (asked e) in
+    let r = sym (k .later .ensures) ∙ y .why2 .given .1 in
     record {
-      answer = at-five _ _ _ _ _ _ (passes e) (sym (k .corners-listed .ensures) ∙ not-true _ (t .if1 .taken));
-      words = d .clear-needed .ensures ∙ ap (cleared (needed (now (s .args .corners)) (length (now (s .args .points)) / 3))) (kept e);
+      answer = at-later _ _ _ _ _ _ (passes e) r;
+      words = d .clear-needed .ensures ∙ ap (cleared (needed (now (s .args .corners)) (length (now (s .args .points)) / 3))) (left (asked e) (e .enum-told .given .1)) ∙ later-words _ _ _ _ (now (s .args .work)) r;
     }
 
-askable-requires : tie.Need-askable-requires
-askable-requires c κs = search needs
-
-clear-needed-requires-2 : tie.Need-clear-needed-requires-2
-clear-needed-requires-2 c κs =
-    let e = c .before .before .before .before .before in
-    let g = counted e in
-    (omega (arith, g .corners, g .few-triangles), g .few-points, omega (arith, g .room, asked e .lent .kept .1 .1 .1 .0))
+enum-told-2 : tie.Need-enum-told-2
+enum-told-2 c = search needs
 
 same-length-3 : tie.Need-same-length-3
 same-length-3 c = search needs
 
 returns-3 : tie.Need-returns-3
 returns-3 c =
-    let d = c .before .before in
-    let t = d .before .before in
-    let a = t .before in
-    let n = a .before in
-    let k = n .before in
+    let k = c .before .before in
     let e = k .before in
-    let s = start (asked e) in
-    record {
-      answer = at-last _ _ _ _ _ _ (passes e) (sym (k .corners-listed .ensures) ∙ not-false _ (n .if1 .left)) (sym (a .askable .ensures) ∙ not-true _ (t .if2 .taken));
-      words = d .clear-needed2 .ensures ∙ ap (cleared (needed (now (s .args .corners)) (length (now (s .args .points)) / 3))) (kept e);
-    }
-
-same-length-4 : tie.Need-same-length-4
-same-length-4 c = search needs
-
-returns-4 : tie.Need-returns-4
-returns-4 c =
-    let a = c .before in
-    let n = a .before in
-    let k = n .before in
-    let e = k .before in
-    record { answer = at-end _ _ _ _ _ _ (passes e) (sym (k .corners-listed .ensures) ∙ not-false _ (n .if1 .left)) (sym (a .askable .ensures) ∙ not-false _ (c .if2 .left)); words = kept e }
+    record { answer = at-later _ _ _ _ _ _ (passes e) (sym (k .later .ensures) ∙ c .enum-told2 .given .1); words = left (asked e) (e .enum-told .given .1) }
 
 pub ask-spec : {M : Type 1} → statement M
 ask-spec =
@@ -120,13 +102,11 @@ ask-spec =
     same-length
     returns
     enum-told
-    corners-listed-requires
+    later-requires
+    enum-known-why-2
     clear-needed-requires
     same-length-2
     returns-2
-    askable-requires
-    clear-needed-requires-2
+    enum-told-2
     same-length-3
-    returns-3
-    same-length-4
-    returns-4)
+    returns-3)

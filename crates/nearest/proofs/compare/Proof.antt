@@ -2,12 +2,11 @@
 use Prim.Native.Nat.{_-_, _/_}
 use mathlib.Core.Path.{_≡_}
 use lib.ListN.{length}
-use Rattle.checking.specs.Validate.{pointAt}
-use Rattle.nearest.proofs.Turns.{Comparing}
 use denote.Ref.{now}
-use Rattle.nearest.proofs.Exact.{distance-holds}
-use Rattle.nearest.proofs.Turns.{passed-over, none-met, corner-there, distance-there, one-met, all-met}
 use borrow.Author.Needs.{needs}
+use Rattle.checking.specs.Validate.{pointAt}
+use Rattle.nearest.proofs.Turns.{Comparing, passed-over, none-met, corner-there, distance-there, one-met, all-met}
+use Rattle.nearest.proofs.Exact.{distance-holds}
 use Rattle.nearest.proofs.compare.Statement.{statement}
 use Rattle.nearest.proofs.compare.Tie as tie
 

@@ -1,7 +1,7 @@
 -- `nearest::distance` meets its contract. Assumes nothing.
 use mathlib.Core.Path.{_∙_}
-use Rattle.float.specs.Point.{dotted}
 use borrow.Author.Needs.{needs}
+use Rattle.float.specs.Point.{dotted}
 use Rattle.nearest.proofs.distance.Statement.{statement}
 use Rattle.nearest.proofs.distance.Tie as tie
 

@@ -1,16 +1,14 @@
 -- `nearest::fill` meets its contract: after i turns the places below i are filled. Assumes nothing.
 use Prim.Native.Nat.{ℕ, _+_, _-_, _*_, _≤_, _<_}
-use mathlib.Core.Path.{_≡_}
+use mathlib.Core.Path.{_≡_, refl, _∙_, subst}
 use native.Mathlib.Omega.{arith}
-use lib.ListN.{length, getD}
+use lib.ListN.{length, getD, set, length-set}
 use lib.Ieee.{nan}
-use Rattle.nearest.specs.Stages.{OnSquares, FilledIn, shown}
-use mathlib.Core.Path.{refl, _∙_, subst}
-use lib.ListN.{set, length-set}
 use denote.Ref.{now}
-use Rattle.halfedges.specs.Place.{at}
-use Rattle.nearest.proofs.Places.{none-set, place-set}
 use borrow.Author.Needs.{needs, below-set}
+use Rattle.halfedges.specs.Place.{at}
+use Rattle.nearest.specs.Stages.{OnSquares, FilledIn, shown}
+use Rattle.nearest.proofs.Places.{none-set, place-set}
 use Rattle.nearest.proofs.fill.Statement.{statement}
 use Rattle.nearest.proofs.fill.Tie as tie
 

@@ -1,8 +1,8 @@
 -- `nearest::measure` meets its contract: its stages put together (`proofs/Measured`). Assumes nothing.
 use native.Mathlib.Omega.{arith}
 use denote.Ref.{now}
-use Rattle.nearest.proofs.Measured.{laid, nothing-found, all-whole, put-together}
 use borrow.Author.Needs.{needs}
+use Rattle.nearest.proofs.Measured.{laid, nothing-found, all-whole, put-together}
 use Rattle.nearest.proofs.measure.Statement.{statement}
 use Rattle.nearest.proofs.measure.Tie as tie
 

@@ -1,7 +1,7 @@
 -- `nearest::nearest` meets its contract: a question refuses, or the places are filled. Assumes nothing.
 use denote.Ref.{now}
-use Rattle.nearest.proofs.Questions.{refused, ready, replied}
 use borrow.Author.Needs.{needs}
+use Rattle.nearest.proofs.Questions.{refused, ready, replied}
 use Rattle.nearest.proofs.nearest.Statement.{statement}
 use Rattle.nearest.proofs.nearest.Tie as tie
 

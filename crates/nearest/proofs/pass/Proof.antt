@@ -4,9 +4,9 @@ use mathlib.Core.Path.{_≡_, refl, _∙_, subst}
 use native.Mathlib.Omega.{arith}
 use lib.ListN.{length}
 use denote.Ref.{now}
+use borrow.Author.Needs.{needs}
 use Rattle.nearest.specs.Stages.{Laid, Keeps}
 use Rattle.nearest.proofs.Turns.{laid-again}
-use borrow.Author.Needs.{needs}
 use Rattle.nearest.proofs.pass.Statement.{statement}
 use Rattle.nearest.proofs.pass.Tie as tie
 
