@@ -5,7 +5,6 @@ use mathlib.Core.List.{List, [], _∷_, _++_}
 use native.Mathlib.Omega.{arith}
 use lib.Dec.{lit≤}
 use lib.ListN.{length, getD, take, drop, replicate}
-use lib.Seq.{drop-cons}
 use lib.Ieee.{Float, nan}
 use Rattle.surface.specs.Triangle.{triangles}
 use Rattle.surface.specs.Closed.{around}
@@ -18,7 +17,7 @@ use Rattle.nearest.specs.Call.{Askable, nearestQuestions}
 use Rattle.nearest.specs.Laws.{Closest, cornerAt, distanceAt, Answers, NearestLaws}
 use Rattle.nearest.proofs.Best.{Outcome, none, one, outcome}
 use Rattle.nearest.proofs.Use.{used-iff, first-used, on-list}
-use Rattle.nearest.proofs.Places.{at-place, past-places}
+use Rattle.nearest.proofs.Places.{at-place, past-places, one-more}
 use Rattle.nearest.proofs.Questions.{askable-iff, at-end, at-later, admitted}
 
 -- ---- one probe
@@ -100,11 +99,10 @@ without points (x ∷ l) probes answers a e i h = absurd (omega arith)
 
 module _ (probes : List Float) (i : ℕ) (h : i < length probes / 3) where
   three : take 3 (drop (3 * i) probes) ≡ getD probes (3 * i) nan ∷ getD probes (3 * i + 1) nan ∷ getD probes (3 * i + 2) nan ∷ []
-  three = ap (take 3) (more (3 * i) (3 * i + 1) (omega arith) (omega arith) ∙ ap (λ (l : List Float). getD probes (3 * i) nan ∷ l)
-      (more (3 * i + 1) (3 * i + 2) (omega arith) (omega arith) ∙ ap (λ (l : List Float). getD probes (3 * i + 1) nan ∷ l) (more (3 * i + 2) (3 * i + 3) (omega arith) (omega arith))))
-    where
-      more : (j k : ℕ) → j < length probes → suc j ≡ k → drop j probes ≡ getD probes j nan ∷ drop k probes
-      more j k l e = drop-cons probes j nan l ∙ ap (λ (n : ℕ). getD probes j nan ∷ drop n probes) e
+  three =
+      ap (take 3)
+      (one-more probes nan (3 * i) (3 * i + 1) (omega arith) (omega arith) ∙ ap (λ (l : List Float). getD probes (3 * i) nan ∷ l)
+      (one-more probes nan (3 * i + 1) (3 * i + 2) (omega arith) (omega arith) ∙ ap (λ (l : List Float). getD probes (3 * i + 1) nan ∷ l) (one-more probes nan (3 * i + 2) (3 * i + 3) (omega arith) (omega arith))))
 
   same-probe : unitsAt (take 3 (drop (3 * i) probes)) 0 ≡ unitsAt probes i
   same-probe = ap (λ (l : List Float). unitsAt l 0) three

@@ -15,6 +15,10 @@ module _ (f g : ℕ → ℕ) where
   length-places zero = refl
   length-places (suc n) = omega (arith, length-places n, length-append (places f g n) (f n ∷ g n ∷ []))
 
+  -- behind the places
+  pub past-places : (n : ℕ) (l : List ℕ) (k : ℕ) → getD (places f g n ++ l) (2 * n + k) 0 ≡ getD l k 0
+  past-places n l k = sym (getD-drop (2 * n) (places f g n ++ l) k 0) ∙ ap (λ (x : List ℕ). getD x k 0) (drop-at (places f g n) l (2 * n) (length-places n))
+
   -- what stands at place i, whatever stands behind
   pub at-place : (n : ℕ) (l : List ℕ) (i : ℕ) → i < n → (getD (places f g n ++ l) (2 * i) 0 ≡ f i) × (getD (places f g n ++ l) (2 * i + 1) 0 ≡ g i)
   unfolding places
@@ -25,19 +29,12 @@ module _ (f g : ℕ → ℕ) where
       most k = omega arith
 
       behind : (k j : ℕ) → 2 * n + k ≡ j → getD ((places f g n ++ (f n ∷ g n ∷ [])) ++ l) j 0 ≡ getD (f n ∷ g n ∷ l) k 0
-      behind k j e =
-          ap₂ (λ (x : List ℕ) (y : ℕ). getD x y 0) (append-assoc (places f g n) (f n ∷ g n ∷ []) l) (sym e)
-          ∙ sym (getD-drop (2 * n) (places f g n ++ f n ∷ g n ∷ l) k 0)
-          ∙ ap (λ (x : List ℕ). getD x k 0) (drop-at (places f g n) (f n ∷ g n ∷ l) (2 * n) (length-places n))
+      behind k j e = ap₂ (λ (x : List ℕ) (y : ℕ). getD x y 0) (append-assoc (places f g n) (f n ∷ g n ∷ []) l) (sym e) ∙ past-places n (f n ∷ g n ∷ l) k
 
       go : (i ≡ n) ⊎ (i < n) → (i < n → (getD (places f g n ++ f n ∷ g n ∷ l) (2 * i) 0 ≡ f i) × (getD (places f g n ++ f n ∷ g n ∷ l) (2 * i + 1) 0 ≡ g i))
           → (getD ((places f g n ++ (f n ∷ g n ∷ [])) ++ l) (2 * i) 0 ≡ f i) × (getD ((places f g n ++ (f n ∷ g n ∷ [])) ++ l) (2 * i + 1) 0 ≡ g i)
       go (inl e) rest = (behind 0 (2 * i) (omega arith) ∙ ap f (sym e), behind 1 (2 * i + 1) (omega arith) ∙ ap g (sym e))
       go (inr k) rest = subst (λ (x : List ℕ). (getD x (2 * i) 0 ≡ f i) × (getD x (2 * i + 1) 0 ≡ g i)) (sym (append-assoc (places f g n) (f n ∷ g n ∷ []) l)) (rest k)
-
-  -- behind the places
-  pub past-places : (n : ℕ) (l : List ℕ) (k : ℕ) → getD (places f g n ++ l) (2 * n + k) 0 ≡ getD l k 0
-  past-places n l k = sym (getD-drop (2 * n) (places f g n ++ l) k 0) ∙ ap (λ (x : List ℕ). getD x k 0) (drop-at (places f g n) l (2 * n) (length-places n))
 
 pub places-same : (f f′ g g′ : ℕ → ℕ) (n : ℕ) → ((i : ℕ) → i < n → f i ≡ f′ i) → ((i : ℕ) → i < n → g i ≡ g′ i) → places f g n ≡ places f′ g′ n
 unfolding places
@@ -48,8 +45,8 @@ places-same f f′ g g′ (suc n) h k =
 
 -- ---- one more place in a list
 
-one-more : (l : List ℕ) (j k : ℕ) → j < length l → suc j ≡ k → drop j l ≡ getD l j 0 ∷ drop k l
-one-more l j k h e = drop-cons l j 0 h ∙ ap (λ (n : ℕ). getD l j 0 ∷ drop n l) e
+pub one-more : {A : Type 0} (l : List A) (d : A) (j k : ℕ) → j < length l → suc j ≡ k → drop j l ≡ getD l j d ∷ drop k l
+one-more l d j k h e = drop-cons l j d h ∙ ap (λ (n : ℕ). getD l j d ∷ drop n l) e
 
 -- two words set at the seam
 set-two : (done rest : List ℕ) (p q a b n : ℕ) → length done ≡ n → set (set (done ++ p ∷ q ∷ rest) n a) (n + 1) b ≡ (done ++ a ∷ b ∷ []) ++ rest
@@ -69,7 +66,7 @@ unfolding places
 place-set f g i answers now h e a b p q =
     let n : suc i ≡ i + 1 = omega arith in
     ap (λ (l : List ℕ). set (set l (2 * i) a) (2 * i + 1) b)
-    (e ∙ ap (λ (l : List ℕ). places f g i ++ l) (one-more answers (2 * i) (2 * i + 1) (omega arith) (omega arith) ∙ ap (λ (l : List ℕ). getD answers (2 * i) 0 ∷ l) (one-more answers (2 * i + 1) (2 * (i + 1)) h (omega arith))))
+    (e ∙ ap (λ (l : List ℕ). places f g i ++ l) (one-more answers 0 (2 * i) (2 * i + 1) (omega arith) (omega arith) ∙ ap (λ (l : List ℕ). getD answers (2 * i) 0 ∷ l) (one-more answers 0 (2 * i + 1) (2 * (i + 1)) h (omega arith))))
     ∙ set-two (places f g i) (drop (2 * (i + 1)) answers) (getD answers (2 * i) 0) (getD answers (2 * i + 1) 0) a b (2 * i) (length-places f g i)
     ∙ ap₂ (λ (x y : ℕ). (places f g i ++ (x ∷ y ∷ [])) ++ drop (2 * (i + 1)) answers) p q
     ∙ ap (λ (k : ℕ). places f g k ++ drop (2 * (i + 1)) answers) n
