@@ -89,8 +89,8 @@ pub start : (ps : List Float) (cs : List ℕ) → measured ps cs ≡ foldl (next
 unfolding measured
 start ps cs = sym (ap₂ (λ (m v : Float). foldl (next ps) (Accepted m v) (triangles cs)) one-is zero-is)
 
-one-more : (cs : List ℕ) (j k : ℕ) → j < length cs → suc j ≡ k → drop j cs ≡ getD cs j 0 ∷ drop k cs
-one-more cs j k h e = drop-cons cs j 0 h ∙ ap (λ (n : ℕ). getD cs j 0 ∷ drop n cs) e
+pub one-more : {A : Type 0} (l : List A) (d : A) (j k : ℕ) → j < length l → suc j ≡ k → drop j l ≡ getD l j d ∷ drop k l
+one-more l d j k h e = drop-cons l j d h ∙ ap (λ (n : ℕ). getD l j d ∷ drop n l) e
 
 -- the triangles from a place of the list on
 pub triangles-more : (cs : List ℕ) (i : ℕ) → i + 2 < length cs
@@ -98,7 +98,7 @@ pub triangles-more : (cs : List ℕ) (i : ℕ) → i + 2 < length cs
 unfolding triangles
 triangles-more cs i h =
     rw
-    (one-more cs i (i + 1) (omega arith) (omega arith), one-more cs (i + 1) (i + 2) (omega arith) (omega arith), one-more cs (i + 2) (i + 3) (omega arith) (omega arith))
+    (one-more cs 0 i (i + 1) (omega arith) (omega arith), one-more cs 0 (i + 1) (i + 2) (omega arith) (omega arith), one-more cs 0 (i + 2) (i + 3) (omega arith) (omega arith))
 
 -- a turn takes the next three corner numbers, l, to the numbers s
 pub turn : (ps : List Float) (cs : List ℕ) (i : ℕ) (m v : Float) {l : List ℕ} {s : Verdict} → i + 2 < length cs → l ≡ getD cs i 0 ∷ getD cs (i + 1) 0 ∷ getD cs (i + 2) 0 ∷ [] → s ≡ next ps (Accepted m v) (triOf l)

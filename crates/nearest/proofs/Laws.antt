@@ -10,6 +10,7 @@ use Rattle.surface.specs.Triangle.{triangles}
 use Rattle.surface.specs.Closed.{around}
 use Rattle.halfedges.specs.Place.{at}
 use Rattle.closing.specs.Closing.{Lent}
+use Rattle.checking.proofs.Turns.{one-more}
 use Rattle.questions.specs.declared.Asked.the-variants.{Passed}
 use Rattle.units.specs.Units.{WholePoint, AllOnUnits, unitsAt}
 use Rattle.nearest.specs.Nearest.{apart, used?, Best, nobody, found, best, nearestTo, cornerOf, distanceOf, places, answered}
@@ -17,7 +18,7 @@ use Rattle.nearest.specs.Call.{Askable, nearestQuestions}
 use Rattle.nearest.specs.Laws.{Closest, cornerAt, distanceAt, Answers, NearestLaws}
 use Rattle.nearest.proofs.Best.{Outcome, none, one, outcome}
 use Rattle.nearest.proofs.Use.{used-iff, first-used, on-list}
-use Rattle.nearest.proofs.Places.{at-place, past-places, one-more}
+use Rattle.nearest.proofs.Places.{at-place, past-places}
 use Rattle.nearest.proofs.Questions.{askable-iff, at-end, at-later, admitted}
 
 -- ---- one probe

@@ -6,7 +6,8 @@ use mathlib.Core.List.{List, [], _∷_, _++_, append-assoc}
 use native.Mathlib.Nat.{eq-or-lt-of-le}
 use native.Mathlib.Omega.{arith}
 use lib.ListN.{length, getD, set, drop, length-append}
-use lib.Seq.{drop-cons, drop-at, getD-drop, set-at}
+use lib.Seq.{drop-at, getD-drop, set-at}
+use Rattle.checking.proofs.Turns.{one-more}
 use Rattle.nearest.specs.Nearest.{places}
 
 module _ (f g : ℕ → ℕ) where
@@ -44,9 +45,6 @@ places-same f f′ g g′ (suc n) h k =
     λ j. before j ++ (h n (omega arith) j ∷ k n (omega arith) j ∷ [])
 
 -- ---- one more place in a list
-
-pub one-more : {A : Type 0} (l : List A) (d : A) (j k : ℕ) → j < length l → suc j ≡ k → drop j l ≡ getD l j d ∷ drop k l
-one-more l d j k h e = drop-cons l j d h ∙ ap (λ (n : ℕ). getD l j d ∷ drop n l) e
 
 -- two words set at the seam
 set-two : (done rest : List ℕ) (p q a b n : ℕ) → length done ≡ n → set (set (done ++ p ∷ q ∷ rest) n a) (n + 1) b ≡ (done ++ a ∷ b ∷ []) ++ rest
