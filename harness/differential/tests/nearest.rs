@@ -339,7 +339,8 @@ fn off() -> Vec<f64> {
 
 const NOT_FINITE: [f64; 3] = [f64::NAN, f64::INFINITY, f64::NEG_INFINITY];
 
-/// In any value of two probes, and in any of four points, of which the first and the last are unused.
+/// In any value of two probes, and in any of four points, of which the first and the last are unused;
+/// also where there are no probes, and no triangles either.
 #[test]
 fn values_that_are_refused() {
     let points = [[1; 3], [2; 3], [3; 3], [4; 3]];
@@ -360,6 +361,9 @@ fn values_that_are_refused() {
             altered.surface.points[place] = x;
             assert_eq!(answered(&altered).number, number, "{x}");
             altered.probes.clear();
+            assert_eq!(answered(&altered).number, number, "{x}");
+            altered.surface.corners.clear();
+            altered.surface.labels.clear();
             assert_eq!(answered(&altered).number, number, "{x}");
         }
     }
