@@ -52,21 +52,16 @@ module _ {A : Type 0} (l : List A) (i : ℕ) (x d : A) where
 
 module _ (points : List Float) (work : List ℕ) (probes : List Float) (v : ℕ) where
   -- the best of the corners below the next
-  skipped : (i : ℕ) → marked work v ≡ false → bestOf points work probes i (v + 1) ≡ bestOf points work probes i v
+  after : (i : ℕ) {t : Bool} → marked work v ≡ t
+      → bestOf points work probes i (v + 1) ≡ cond t (better (bestOf points work probes i v) v (apart (unitsAt points v) (unitsAt probes i))) (bestOf points work probes i v)
   unfolding best
-  skipped i e =
-      let b = bestOf points work probes i v in
-      ap (best (marked work) (λ (w : ℕ). apart (unitsAt points w) (unitsAt probes i))) (add-one v) ∙ ap (λ (t : Bool). cond t (better b v (apart (unitsAt points v) (unitsAt probes i))) b) e
-
-  taken : (i : ℕ) → marked work v ≡ true → bestOf points work probes i (v + 1) ≡ better (bestOf points work probes i v) v (apart (unitsAt points v) (unitsAt probes i))
-  unfolding best
-  taken i e =
+  after i e =
       let b = bestOf points work probes i v in
       ap (best (marked work) (λ (w : ℕ). apart (unitsAt points w) (unitsAt probes i))) (add-one v) ∙ ap (λ (t : Bool). cond t (better b v (apart (unitsAt points v) (unitsAt probes i))) b) e
 
   -- a corner that is not in use
   pub passed-over : (nearest : List ℕ) (least : List Float) → at work v ≡ 0 → Keeps points work probes v nearest least → Keeps points work probes (v + 1) nearest least
-  passed-over nearest least e k i h = subst (λ (b : Best). Kept b (at nearest i) (getD least i nan)) (sym (skipped i (ap not (eq-eqb (at work v) 0 e)))) (k i h)
+  passed-over nearest least e k i h = subst (λ (b : Best). Kept b (at nearest i) (getD least i nan)) (sym (after i (ap not (eq-eqb (at work v) 0 e)))) (k i h)
 
   -- the probes below i have met the corner v
   pub record Comparing (nearest₀ : List ℕ) (least₀ : List Float) (nearest : List ℕ) (least : List Float) (i : ℕ) : Type 0 where
@@ -110,7 +105,7 @@ module _ (points : List Float) (work : List ℕ) (probes : List Float) (v : ℕ)
 
         here : Kept (bestOf points work probes i (v + 1)) (at nearest′ i) (getD least′ i nan)
         here =
-            subst (λ (b : Best). Kept b (at nearest′ i) (getD least′ i nan)) (sym (taken i (ap not (ne-eqb (at work v) 0 (c .head)))))
+            subst (λ (b : Best). Kept b (at nearest′ i) (getD least′ i nan)) (sym (after i (ap not (ne-eqb (at work v) 0 (c .head)))))
             (subst₂ (λ (x : ℕ) (y : Float). Kept (better (bestOf points work probes i v) v (apart (unitsAt points v) (unitsAt probes i))) x y)
             (sym (ap (λ (l : List ℕ). at l i) (e .corners) ∙ set-here nearest i v 0 (le (getD least i nan) d) corner-there)) (sym (ap (λ (l : List Float). getD l i nan) (e .distances) ∙ set-here least i d nan (le (getD least i nan) d) distance-there))
             (kept-better (bestOf points work probes i v) (at nearest i) (getD least i nan) (c .unmet i (omega arith) h) v (apart (unitsAt points v) (unitsAt probes i)) d is most))
