@@ -6,11 +6,11 @@ use lib.ListN.{length}
 use lib.Ieee.{Float}
 use Rattle.questions.specs.Questions.{workAfter}
 use Rattle.questions.specs.Refusal.{askedNumber}
-use Rattle.nearest.specs.Call.{nearestQuestions, filled, answersAfter}
+use Rattle.nearest.specs.Call.{nearestQuestions, placesFilled, answersAfter}
 
 pub record NearestCall (points : List Float) (corners labels work : List ℕ) (probes : List Float) (answers work′ answers′ count′ : List ℕ) (number : ℕ) : Type 0 where
   pub answer : number ≡ askedNumber (nearestQuestions points corners labels work probes (length answers))
-  pub count : count′ ≡ filled (nearestQuestions points corners labels work probes (length answers)) probes ∷ []
+  pub count : count′ ≡ placesFilled (nearestQuestions points corners labels work probes (length answers)) probes ∷ []
   pub places : answers′ ≡ answersAfter (nearestQuestions points corners labels work probes (length answers)) points corners probes answers
   pub words : work′ ≡ workAfter number points corners work
 

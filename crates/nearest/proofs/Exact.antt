@@ -19,12 +19,12 @@ use Rattle.rounding.proofs.Exactness.{power-exact, add-exact}
 use Rattle.rounding.proofs.Cast.{unsigned}
 use Rattle.units.specs.Units.{WholePoint, AllOnUnits, unitsAt}
 use Rattle.units.proofs.Points.{PointHolds, point-holds, difference-holds}
-use Rattle.nearest.specs.Nearest.{squared, apart}
+use Rattle.nearest.specs.Nearest.{square, apart}
 use Rattle.nearest.specs.Stages.{inSquares, OnSquares}
 
 -- ---- the distance
 
-square-is : (z : ℤ) → z *ℤ z ≡ pos (squared z)
+square-is : (z : ℤ) → z *ℤ z ≡ pos (square z)
 square-is (pos n) = refl
 square-is (negsuc n) = refl
 
@@ -32,11 +32,11 @@ square-is (negsuc n) = refl
 abbrev pub mostApart : ℕ
 mostApart = 12884901888
 
-dotted-holds : {p : Point} {w : WholePoint} → PointHolds p w 10 65536 → Holds (dotted p p) (pos (squared (w .x) + squared (w .y) + squared (w .z))) 20 mostApart
+dotted-holds : {p : Point} {w : WholePoint} → PointHolds p w 10 65536 → Holds (dotted p p) (pos (square (w .x) + square (w .y) + square (w .z))) 20 mostApart
 dotted-holds g =
     holds-plus binary64 20 8589934592 4294967296 (omega arith) (omega arith) (holds-plus binary64 20 4294967296 4294967296 (omega arith) (omega arith) (one (g .x)) (one (g .y))) (one (g .z))
   where
-    one : {x : Float} {a : ℤ} → Holds x a 10 65536 → Holds (times x x) (pos (squared a)) 20 4294967296
+    one : {x : Float} {a : ℤ} → Holds x a 10 65536 → Holds (times x x) (pos (square a)) 20 4294967296
     one {x} {a} h = subst (λ (z : ℤ). Holds (times x x) z 20 4294967296) (square-is a) (holds-times binary64 10 10 65536 65536 (omega arith) (omega arith) h h)
 
 pub distance-holds : (points probes : List Float) → AllOnUnits points → AllOnUnits probes → (v i : ℕ) → v < length points / 3 → i < length probes / 3

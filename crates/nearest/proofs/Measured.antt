@@ -19,9 +19,9 @@ use Rattle.rounding.proofs.Rounded.{is-wholes}
 use Rattle.units.specs.Units.{unitsAt}
 use Rattle.nearest.specs.Nearest.{apart, used?, Best, nobody, found, best, nearestTo, cornerOf, distanceOf, places, answered}
 use Rattle.nearest.specs.Call.{Askable}
-use Rattle.nearest.specs.Stages.{marked, bestOf, farOf, Kept, Laid, Keeps, inSquares, OnSquares, shown, FilledIn, Measured}
+use Rattle.nearest.specs.Stages.{hasHead, bestOf, farOf, BestKept, Laid, BestsKept, inSquares, OnSquares, shown, FilledIn, AllAnswered}
 use Rattle.nearest.proofs.Best.{Outcome, one, outcome, best-same}
-use Rattle.nearest.proofs.Use.{marked-used}
+use Rattle.nearest.proofs.Use.{head-used}
 use Rattle.nearest.proofs.Places.{places-same}
 use Rattle.nearest.proofs.Exact.{apart-most}
 
@@ -39,27 +39,27 @@ module _ (points : List Float) (corners work : List ℕ) (probes : List Float) (
   laid = record { whole-points = a .whole-points; whole-probes = a .whole-probes; words = omega (arith, ready .ready .sized .room); corners = a .few; distances = a .few }
 
   -- before the first corner
-  pub nothing-found : Keeps points work′ probes 0 (replicate 64 4294967295) (replicate 64 farther)
+  pub nothing-found : BestsKept points work′ probes 0 (replicate 64 4294967295) (replicate 64 farther)
   unfolding best
   nothing-found i h =
       let few = a .few in
-      subst₂ (λ (v : ℕ) (d : Float). Kept nobody v d) (sym (getD-replicate 64 i 4294967295 0 (omega arith))) (sym (getD-replicate 64 i farther nan (omega arith))) (record { named = refl; far = farther-is })
+      subst₂ (λ (v : ℕ) (d : Float). BestKept nobody v d) (sym (getD-replicate 64 i 4294967295 0 (omega arith))) (sym (getD-replicate 64 i farther nan (omega arith))) (record { named = refl; far = farther-is })
 
   -- after the last
-  module _ (nearest : List ℕ) (least : List Float) (k : Keeps points work′ probes (length points / 3) nearest least) where
+  module _ (nearest : List ℕ) (least : List Float) (k : BestsKept points work′ probes (length points / 3) nearest least) where
     abbrev foundFor : ℕ → Best
     foundFor i = bestOf points work′ probes i (length points / 3)
 
     abbrev distanceFrom : ℕ → ℕ → ℕ
     distanceFrom i v = apart (unitsAt points v) (unitsAt probes i)
 
-    found-is : (i : ℕ) → Outcome (marked work′) (distanceFrom i) (length points / 3) (foundFor i)
-    found-is i = outcome (marked work′) (distanceFrom i) (length points / 3)
+    found-is : (i : ℕ) → Outcome (hasHead work′) (distanceFrom i) (length points / 3) (foundFor i)
+    found-is i = outcome (hasHead work′) (distanceFrom i) (length points / 3)
 
     small : (i : ℕ) → i < length probes / 3 → farOf (foundFor i) ≤ 17179869184
     small i h = go (foundFor i) (found-is i)
       where
-        go : (b : Best) → Outcome (marked work′) (distanceFrom i) (length points / 3) b → farOf b ≤ 17179869184
+        go : (b : Best) → Outcome (hasHead work′) (distanceFrom i) (length points / 3) b → farOf b ≤ 17179869184
         go nobody o = lit≤ tt
         go (found v d) (one o) = let m = apart-most points probes (a .whole-points) (a .whole-probes) v i (o .below) h in omega (arith, o .is)
 
@@ -74,15 +74,15 @@ module _ (points : List Float) (corners work : List ℕ) (probes : List Float) (
     shown-is : (i : ℕ) → i < length probes / 3 → shown (at nearest i) (getD least i nan) ≡ distanceOf (foundFor i)
     shown-is i h = ap₂ (λ (v n : ℕ). cond (eqb v 4294967295) 0 n) (k i h .named) (squares-is i h) ∙ go (foundFor i) (found-is i)
       where
-        go : (b : Best) → Outcome (marked work′) (distanceFrom i) (length points / 3) b → cond (eqb (cornerOf b) 4294967295) 0 (farOf b) ≡ distanceOf b
+        go : (b : Best) → Outcome (hasHead work′) (distanceFrom i) (length points / 3) b → cond (eqb (cornerOf b) 4294967295) 0 (farOf b) ≡ distanceOf b
         go nobody o = refl
         go (found v d) (one o) = ap (λ (t : Bool). cond t 0 d) (ne-eqb v 4294967295 (λ e. omega (arith, o .below, l .points)))
 
-    -- the words mark the corners in use
+    -- the corners with a head are those in use
     same-best : (i : ℕ) → foundFor i ≡ nearestTo points corners (unitsAt probes i)
-    same-best i = best-same (marked work′) (used? (triangles corners)) (distanceFrom i) (length points / 3) (marked-used corners (l .thirds) (length points / 3) work′ (ready .ready .linked))
+    same-best i = best-same (hasHead work′) (used? (triangles corners)) (distanceFrom i) (length points / 3) (head-used corners (l .thirds) (length points / 3) work′ (ready .ready .linked))
 
-    pub put-together : (work″ answers answers′ : List ℕ) → FilledIn (length probes / 3) nearest least answers answers′ → Zeroed corners (length points / 3) work′ work″ → Measured points corners work work″ probes answers answers′
+    pub put-together : (work″ answers answers′ : List ℕ) → FilledIn (length probes / 3) nearest least answers answers′ → Zeroed corners (length points / 3) work′ work″ → AllAnswered points corners work work″ probes answers answers′
     unfolding answered
     put-together work″ answers answers′ f z = record {
       places =

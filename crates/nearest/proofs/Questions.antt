@@ -25,7 +25,7 @@ use Rattle.units.specs.Units.{allOnUnits?}
 use Rattle.units.proofs.Tests.{all-on-units-iff}
 use Rattle.nearest.specs.Nearest.{answered}
 use Rattle.nearest.specs.Call.{Askable, askable?, laterQuestions, nearestQuestions, Replies}
-use Rattle.nearest.specs.Stages.{Asks, Measured}
+use Rattle.nearest.specs.Stages.{Asks, AllAnswered}
 
 -- ---- question 42
 
@@ -198,7 +198,7 @@ module _ (points : List Float) (corners labels work : List ℕ) (probes : List F
     pub ready : (Lent corners (length points / 3) work′) × (Askable points probes (length wiped))
     ready = (lent-again (ap length (words-are e)) (known .lent), known .askable)
 
-    pub replied : (work″ answers′ : List ℕ) → Measured points corners work′ work″ probes wiped answers′ → Replies points corners labels work work″ probes answers answers′ Passed
+    pub replied : (work″ answers′ : List ℕ) → AllAnswered points corners work′ work″ probes wiped answers′ → Replies points corners labels work work″ probes answers answers′ Passed
     replied work″ answers′ m = record {
       answer = sym e ∙ answer-is;
       places =

@@ -16,7 +16,7 @@ use Rattle.halfedges.proofs.Steps.{around-places, length-pl}
 use Rattle.halfedges.proofs.Chains.{last-names, last-skip, uses-last, uses-suc, uses-zero}
 use Rattle.halfedges.proofs.Fine.{unused-past}
 use Rattle.nearest.specs.Nearest.{used?}
-use Rattle.nearest.specs.Stages.{marked}
+use Rattle.nearest.specs.Stages.{hasHead}
 
 pub used-iff : (ts : List Tri) (v : ℕ) → (used? ts v ≡ true) ↔ InUse ts v
 unfolding used?
@@ -37,9 +37,9 @@ module _ (c : List ℕ) (thirds : length c % 3 ≡ 0) where
       some : {n m : ℕ} → n ≡ suc m → 0 < n
       some {n} {m} p = omega arith
 
-  pub marked-used : (p : ℕ) (w : List ℕ) → Linked c p w (length c) → (v : ℕ) → v < p → marked w v ≡ used? (triangles c) v
+  pub head-used : (p : ℕ) (w : List ℕ) → Linked c p w (length c) → (v : ℕ) → v < p → hasHead w v ≡ used? (triangles c) v
   unfolding used?
-  marked-used p w h v l = sym (ap (ltb 0) (named v) ∙ by-head v (at w v) (sym (h .heads v l)))
+  head-used p w h v l = sym (ap (ltb 0) (named v) ∙ by-head v (at w v) (sym (h .heads v l)))
 
   -- a corner on the list of corners is in use
   pub first-used : 0 < length c → InUse (triangles c) (at c 0)

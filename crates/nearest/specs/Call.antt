@@ -38,9 +38,9 @@ unfolding lentQuestions laterQuestions
 nearestQuestions points corners labels work probes words = andThen (lentQuestions points corners labels work) (laterQuestions points corners probes words)
 
 -- how many answer places are filled
-abbrev pub filled : Asked → List Float → ℕ
-filled Passed probes = length probes / 3
-filled (Refused why) probes = 0
+abbrev pub placesFilled : Asked → List Float → ℕ
+placesFilled Passed probes = length probes / 3
+placesFilled (Refused why) probes = 0
 
 -- the list of answers: the places filled, and 0 behind; all 0 after a refusal
 abbrev pub answersAfter : Asked → List Float → List ℕ → List Float → List ℕ → List ℕ

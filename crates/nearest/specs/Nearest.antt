@@ -11,11 +11,11 @@ use Rattle.surface.specs.Closed.{around}
 use Rattle.units.specs.Units.{WholePoint, unitsAt}
 
 -- the squared distance of two points: a whole number of (1/1024)^2
-abbrev pub squared : ℤ → ℕ
-squared z = natAbs z * natAbs z
+abbrev pub square : ℤ → ℕ
+square z = natAbs z * natAbs z
 
 abbrev pub apart : WholePoint → WholePoint → ℕ
-apart p q = squared (p .x -ℤ q .x) + squared (p .y -ℤ q .y) + squared (p .z -ℤ q .z)
+apart p q = square (p .x -ℤ q .x) + square (p .y -ℤ q .y) + square (p .z -ℤ q .z)
 
 -- a corner is in use if a triangle names it: `InUse` of `surface` as a test
 unfoldable pub used? : List Tri → ℕ → Bool
@@ -27,15 +27,15 @@ pub data Best : Type 0 where
   nobody : Best
   found : ℕ → ℕ → Best
 
--- the better of what is found so far and the next corner: only a smaller distance is better
-abbrev pub better : Best → ℕ → ℕ → Best
-better nobody v d = found v d
-better (found w e) v d = cond (ltb d e) (found v d) (found w e)
+-- the nearer of what is found so far and the next corner: only a smaller distance is nearer
+abbrev pub nearer : Best → ℕ → ℕ → Best
+nearer nobody v d = found v d
+nearer (found w e) v d = cond (ltb d e) (found v d) (found w e)
 
 -- the best of the corners in use below n, in rising order
 unfoldable pub best : (used : ℕ → Bool) (distance : ℕ → ℕ) (n : ℕ) → Best
 best used distance zero = nobody
-best used distance (suc v) = cond (used v) (better (best used distance v) v (distance v)) (best used distance v)
+best used distance (suc v) = cond (used v) (nearer (best used distance v) v (distance v)) (best used distance v)
 
 -- of a probe
 abbrev pub nearestTo : List Float → List ℕ → WholePoint → Best

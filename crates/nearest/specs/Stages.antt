@@ -21,19 +21,19 @@ pub record Asks (points : List Float) (corners labels work work′ : List ℕ) (
   pub answer : asked ≡ nearestQuestions points corners labels work probes room
   pub words : work′ ≡ lentWords asked points corners work
 
--- the corners that the words mark, by a head that is not 0; and the best of them below n for the probe i
-abbrev pub marked : List ℕ → ℕ → Bool
-marked work v = not (eqb (at work v) 0)
+-- the corners whose chain has a head, a word that is not 0; and the best of them below n for the probe i
+abbrev pub hasHead : List ℕ → ℕ → Bool
+hasHead work v = not (eqb (at work v) 0)
 
 abbrev pub bestOf : List Float → List ℕ → List Float → ℕ → ℕ → Best
-bestOf points work probes i n = best (marked work) (λ (v : ℕ). apart (unitsAt points v) (unitsAt probes i)) n
+bestOf points work probes i n = best (hasHead work) (λ (v : ℕ). apart (unitsAt points v) (unitsAt probes i)) n
 
 -- how it is kept meanwhile: the corner, or the mark, and the squared distance as a value of f64; where nothing is found, 2^34, farther than any
 abbrev pub farOf : Best → ℕ
 farOf nobody = 17179869184
 farOf (found v d) = d
 
-pub record Kept (b : Best) (corner : ℕ) (distance : Float) : Type 0 where
+pub record BestKept (b : Best) (corner : ℕ) (distance : Float) : Type 0 where
   pub named : corner ≡ cornerOf b
   pub far : Is distance (pos (farOf b)) 1048576
 
@@ -46,8 +46,8 @@ pub record Laid (points : List Float) (work : List ℕ) (probes : List Float) (n
   pub distances : length probes / 3 ≤ length least
 
 -- each probe's best of the corners below n is kept
-abbrev pub Keeps : List Float → List ℕ → List Float → ℕ → List ℕ → List Float → Type 0
-Keeps points work probes n nearest least = (i : ℕ) → i < length probes / 3 → Kept (bestOf points work probes i n) (at nearest i) (getD least i nan)
+abbrev pub BestsKept : List Float → List ℕ → List Float → ℕ → List ℕ → List Float → Type 0
+BestsKept points work probes n nearest least = (i : ℕ) → i < length probes / 3 → BestKept (bestOf points work probes i n) (at nearest i) (getD least i nan)
 
 -- a distance against that of the probe i: only a smaller one is put into its place
 pub record Considered (v : ℕ) (d : Float) (i : ℕ) (nearest : List ℕ) (least : List Float) (nearest′ : List ℕ) (least′ : List Float) : Type 0 where
@@ -71,6 +71,6 @@ abbrev pub FilledIn : ℕ → List ℕ → List Float → List ℕ → List ℕ 
 FilledIn n nearest least answers answers′ = answers′ ≡ places (at nearest) (λ (i : ℕ). shown (at nearest i) (getD least i nan)) n ++ drop (2 * n) answers
 
 -- the whole, once the questions are passed
-pub record Measured (points : List Float) (corners work work′ : List ℕ) (probes : List Float) (answers answers′ : List ℕ) : Type 0 where
+pub record AllAnswered (points : List Float) (corners work work′ : List ℕ) (probes : List Float) (answers answers′ : List ℕ) : Type 0 where
   pub places : answers′ ≡ answered points corners probes ++ drop (2 * (length probes / 3)) answers
   pub words : Zeroed corners (length points / 3) work work′

@@ -10,7 +10,7 @@ ghost use lib.Ieee.{nan};
 ghost use Rattle.float.specs.Point.{difference, dotted};
 ghost use Rattle.closing.specs.Closing.{Lent};
 ghost use Rattle.nearest.specs.Call.{Askable, askable?, laterQuestions, Replies};
-ghost use Rattle.nearest.specs.Stages.{Asks, Laid, Keeps, Considered, OnSquares, shown, FilledIn, Measured};
+ghost use Rattle.nearest.specs.Stages.{Asks, Laid, BestsKept, Considered, OnSquares, shown, FilledIn, AllAnswered};
 
 // Every word becomes 0.
 fn wipe(list: &mut [u64])
@@ -106,8 +106,8 @@ fn compare(
     least: &mut [f64],
 )
     requires { ⌜ (Laid (now points) (now work) (now probes) (now nearest) (now least)) × (v < length (now points) / 3) ⌝ }
-    requires { ⌜ Keeps (now points) (now work) (now probes) v (now nearest) (now least) ⌝ }
-    ensures { λ _. ⌜ Keeps (now (points .entry)) (now (work .entry)) (now (probes .entry)) (v + 1) (now (nearest .exit)) (now (least .exit)) ⌝ }
+    requires { ⌜ BestsKept (now points) (now work) (now probes) v (now nearest) (now least) ⌝ }
+    ensures { λ _. ⌜ BestsKept (now (points .entry)) (now (work .entry)) (now (probes .entry)) (v + 1) (now (nearest .exit)) (now (least .exit)) ⌝ }
 {
     let head = work[v]; // of the chain of its places
     if head == 0 {
@@ -124,8 +124,8 @@ fn compare(
 // The best of every probe, by one pass over the corners in rising order.
 fn pass(points: &[f64], work: &[u32], probes: &[f64], nearest: &mut [u64], least: &mut [f64])
     requires { ⌜ Laid (now points) (now work) (now probes) (now nearest) (now least) ⌝ }
-    requires { ⌜ Keeps (now points) (now work) (now probes) 0 (now nearest) (now least) ⌝ }
-    ensures { λ _. ⌜ Keeps (now (points .entry)) (now (work .entry)) (now (probes .entry)) (length (now (points .entry)) / 3) (now (nearest .exit)) (now (least .exit)) ⌝ }
+    requires { ⌜ BestsKept (now points) (now work) (now probes) 0 (now nearest) (now least) ⌝ }
+    ensures { λ _. ⌜ BestsKept (now (points .entry)) (now (work .entry)) (now (probes .entry)) (length (now (points .entry)) / 3) (now (nearest .exit)) (now (least .exit)) ⌝ }
 {
     let mut v = 0;
     while v < points.len() / 3 {
@@ -165,7 +165,7 @@ fn fill(n: usize, nearest: &[u64], least: &[f64], answers: &mut [u64])
 // The answers, once the questions are passed. Corners in use have a chain of places; it is made once.
 fn measure(points: &[f64], corners: &[u32], work: &mut [u32], probes: &[f64], answers: &mut [u64])
     requires { ⌜ (Lent (now corners) (length (now points) / 3) (now work)) × (Askable (now points) (now probes) (length (now answers))) ⌝ }
-    ensures { λ _. ⌜ Measured (now (points .entry)) (now (corners .entry)) (now (work .entry)) (now (work .exit)) (now (probes .entry)) (now (answers .entry)) (now (answers .exit)) ⌝ }
+    ensures { λ _. ⌜ AllAnswered (now (points .entry)) (now (corners .entry)) (now (work .entry)) (now (work .exit)) (now (probes .entry)) (now (answers .entry)) (now (answers .exit)) ⌝ }
 {
     closing::prepare(corners, points.len() / 3, work);
     let mut nearest = [4294967295u64; 64];

@@ -10,17 +10,17 @@ use Rattle.questions.specs.Questions.{workAfter}
 use Rattle.questions.specs.Refusal.{askedNumber}
 use Rattle.questions.specs.declared.Asked.{Asked}
 use Rattle.questions.specs.declared.Asked.the-variants.{Passed}
-use Rattle.nearest.specs.Call.{filled, answersAfter, Replies}
+use Rattle.nearest.specs.Call.{placesFilled, answersAfter, Replies}
 use Rattle.nearest.proofs.Questions.{admitted}
 use Rattle.lanovishel.specs.Nearest.{NearestCall}
 use Rattle.lanovishel.proofs.lanovishel_nearest.Statement.{statement}
 use Rattle.lanovishel.proofs.lanovishel_nearest.Tie as tie
 
 module _ {points : List Float} {corners labels work work′ : List ℕ} {probes : List Float} {answers answers′ : List ℕ} {r q : Asked} (d : Replies points corners labels work work′ probes answers answers′ r) (e : r ≡ q) where
-  handed : {number count : ℕ} → number ≡ askedNumber q → count ≡ filled q probes → NearestCall points corners labels work probes answers work′ answers′ (count ∷ []) number
+  handed : {number count : ℕ} → number ≡ askedNumber q → count ≡ placesFilled q probes → NearestCall points corners labels work probes answers work′ answers′ (count ∷ []) number
   handed n c = record {
     answer = n ∙ ap askedNumber (sym e ∙ d .answer);
-    count = ap (λ (k : ℕ). k ∷ []) (c ∙ ap (λ (a : Asked). filled a probes) (sym e ∙ d .answer));
+    count = ap (λ (k : ℕ). k ∷ []) (c ∙ ap (λ (a : Asked). placesFilled a probes) (sym e ∙ d .answer));
     places = d .places ∙ ap (λ (a : Asked). answersAfter a points corners probes answers) (d .answer);
     words = d .words ∙ ap (λ (a : Asked). workAfter (askedNumber a) points corners work) e ∙ ap (λ (k : ℕ). workAfter k points corners work) (sym n);
   }

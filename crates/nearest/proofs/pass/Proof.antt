@@ -5,14 +5,14 @@ use native.Mathlib.Omega.{arith}
 use lib.ListN.{length}
 use denote.Ref.{now}
 use borrow.Author.Needs.{needs}
-use Rattle.nearest.specs.Stages.{Laid, Keeps}
+use Rattle.nearest.specs.Stages.{Laid, BestsKept}
 use Rattle.nearest.proofs.Turns.{laid-again}
 use Rattle.nearest.proofs.pass.Statement.{statement}
 use Rattle.nearest.proofs.pass.Tie as tie
 
 abbrev Inv-loop : tie.InvT-loop
 Inv-loop points work probes nearest₀ least₀ v₀ nearest least v =
-    (Laid points work probes nearest₀ least₀) × (length nearest ≡ length nearest₀) × (length least ≡ length least₀) × (v ≤ length points / 3) × (Keeps points work probes v nearest least)
+    (Laid points work probes nearest₀ least₀) × (length nearest ≡ length nearest₀) × (length least ≡ length least₀) × (v ≤ length points / 3) × (BestsKept points work probes v nearest least)
 
 abbrev μ-loop : tie.MeasureT-loop
 μ-loop points work probes nearest₀ least₀ v₀ nearest least v = length points / 3 - v
@@ -48,7 +48,7 @@ returns c =
     let l = c .before .loop in
     let s = c .before .before .before .before .before .before .before in
     let e : l .v ≡ length (now (s .args .points)) / 3 = (let h = c .loop-test .left in omega (arith, l .inv .3)) in
-    subst (λ (n : ℕ). Keeps (now (s .args .points)) (now (s .args .work)) (now (s .args .probes)) n (l .nearest) (l .least)) e (l .inv .4)
+    subst (λ (n : ℕ). BestsKept (now (s .args .points)) (now (s .args .work)) (now (s .args .probes)) n (l .nearest) (l .least)) e (l .inv .4)
 
 pub pass-spec : {M : Type 1} → statement M
 pass-spec =
