@@ -89,6 +89,7 @@ pub start : (ps : List Float) (cs : List ℕ) → measured ps cs ≡ foldl (next
 unfolding measured
 start ps cs = sym (ap₂ (λ (m v : Float). foldl (next ps) (Accepted m v) (triangles cs)) one-is zero-is)
 
+-- a list from a place on: the element there, and what follows it
 pub one-more : {A : Type 0} (l : List A) (d : A) (j k : ℕ) → j < length l → suc j ≡ k → drop j l ≡ getD l j d ∷ drop k l
 one-more l d j k h e = drop-cons l j d h ∙ ap (λ (n : ℕ). getD l j d ∷ drop n l) e
 

@@ -7,7 +7,7 @@ use native.Mathlib.Nat.{eq-or-lt-of-le}
 use native.Mathlib.Omega.{arith}
 use lib.Dec.{ltb}
 use borrow.Author.Tests.{ltb-true, ltb-false}
-use Rattle.nearest.specs.Nearest.{Best, nobody, found, nearer, best}
+use Rattle.nearest.specs.Nearest.{Best, nobody, found, closer, best}
 
 module _ (used : ℕ → Bool) (distance : ℕ → ℕ) where
   pub record IsBest (n v d : ℕ) : Type 0 where
@@ -42,7 +42,7 @@ module _ (used : ℕ → Bool) (distance : ℕ → ℕ) where
     first = next n (λ w. used w ≡ true → distance w ≡ d → v ≤ w) (h .first) (λ e. absurd (true≢false (sym e ∙ u)));
   })
 
-  taken : (n : ℕ) (b : Best) → used n ≡ true → Outcome n b → Outcome (suc n) (nearer b n (distance n))
+  taken : (n : ℕ) (b : Best) → used n ≡ true → Outcome n b → Outcome (suc n) (closer b n (distance n))
   taken n nobody u (none h) = one {v = n} {d = distance n} (record {
     below = omega arith;
     in-use = u;
@@ -77,7 +77,7 @@ module _ (used : ℕ → Bool) (distance : ℕ → ℕ) where
   outcome zero = none (λ w l e. absurd (omega arith))
   outcome (suc n) = go (used n) refl (outcome n)
     where
-      go : (b : Bool) → used n ≡ b → Outcome n (best used distance n) → Outcome (suc n) (cond b (nearer (best used distance n) n (distance n)) (best used distance n))
+      go : (b : Bool) → used n ≡ b → Outcome n (best used distance n) → Outcome (suc n) (cond b (closer (best used distance n) n (distance n)) (best used distance n))
       go true e h = taken n (best used distance n) e h
       go false e h = skipped n (best used distance n) e h
 
@@ -87,4 +87,4 @@ unfolding best
 best-same used used′ distance zero h = refl
 best-same used used′ distance (suc n) h =
     let before = best-same used used′ distance n (λ v l. h v (omega arith)) in
-    λ i. cond (h n (omega arith) i) (nearer (before i) n (distance n)) (before i)
+    λ i. cond (h n (omega arith) i) (closer (before i) n (distance n)) (before i)

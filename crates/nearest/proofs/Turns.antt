@@ -17,17 +17,17 @@ use Rattle.halfedges.specs.Place.{at}
 use Rattle.rounding.specs.Fraction.{Is}
 use Rattle.rounding.proofs.Compared.{le-numbers}
 use Rattle.units.specs.Units.{unitsAt}
-use Rattle.nearest.specs.Nearest.{apart, Best, nobody, found, nearer, best}
+use Rattle.nearest.specs.Nearest.{apart, Best, nobody, found, closer, best}
 use Rattle.nearest.specs.Stages.{hasHead, bestOf, farOf, BestKept, Laid, BestsKept, Considered}
 use Rattle.nearest.proofs.Exact.{mostApart}
 
 -- ---- one probe
 
-kept-nearer : (b : Best) (corner : ℕ) (e : Float) → BestKept b corner e → (v n : ℕ) (d : Float) → Is d (pos n) 1048576 → n ≤ mostApart → BestKept (nearer b v n) (cond (le e d) corner v) (cond (le e d) e d)
-kept-nearer b corner e k v n d i most =
-    subst (λ (t : Bool). BestKept (nearer b v n) (cond t corner v) (cond t e d)) (sym (le-numbers (lit< tt) (k .far) i)) (go b k (leb (farOf b) n) refl)
+kept-closer : (b : Best) (corner : ℕ) (e : Float) → BestKept b corner e → (v n : ℕ) (d : Float) → Is d (pos n) 1048576 → n ≤ mostApart → BestKept (closer b v n) (cond (le e d) corner v) (cond (le e d) e d)
+kept-closer b corner e k v n d i most =
+    subst (λ (t : Bool). BestKept (closer b v n) (cond t corner v) (cond t e d)) (sym (le-numbers (lit< tt) (k .far) i)) (go b k (leb (farOf b) n) refl)
   where
-    go : (b : Best) → BestKept b corner e → (t : Bool) → leb (farOf b) n ≡ t → BestKept (nearer b v n) (cond t corner v) (cond t e d)
+    go : (b : Best) → BestKept b corner e → (t : Bool) → leb (farOf b) n ≡ t → BestKept (closer b v n) (cond t corner v) (cond t e d)
     go nobody k true p = let h = leb-true 17179869184 n p in absurd (omega arith)
     go nobody k false p = record { named = refl; far = i }
     go (found w m) k true p = subst (λ (t : Bool). BestKept (cond t (found v n) (found w m)) corner e) (sym (le-ltb n m (leb-true m n p))) k
@@ -53,11 +53,11 @@ module _ {A : Type 0} (l : List A) (i : ℕ) (x d : A) where
 module _ (points : List Float) (work : List ℕ) (probes : List Float) (v : ℕ) where
   -- the best of the corners below the next
   after : (i : ℕ) {t : Bool} → hasHead work v ≡ t
-      → bestOf points work probes i (v + 1) ≡ cond t (nearer (bestOf points work probes i v) v (apart (unitsAt points v) (unitsAt probes i))) (bestOf points work probes i v)
+      → bestOf points work probes i (v + 1) ≡ cond t (closer (bestOf points work probes i v) v (apart (unitsAt points v) (unitsAt probes i))) (bestOf points work probes i v)
   unfolding best
   after i e =
       let b = bestOf points work probes i v in
-      ap (best (hasHead work) (λ (w : ℕ). apart (unitsAt points w) (unitsAt probes i))) (add-one v) ∙ ap (λ (t : Bool). cond t (nearer b v (apart (unitsAt points v) (unitsAt probes i))) b) e
+      ap (best (hasHead work) (λ (w : ℕ). apart (unitsAt points w) (unitsAt probes i))) (add-one v) ∙ ap (λ (t : Bool). cond t (closer b v (apart (unitsAt points v) (unitsAt probes i))) b) e
 
   -- a corner that is not in use
   pub passed-over : (nearest : List ℕ) (least : List Float) → at work v ≡ 0 → BestsKept points work probes v nearest least → BestsKept points work probes (v + 1) nearest least
@@ -106,9 +106,9 @@ module _ (points : List Float) (work : List ℕ) (probes : List Float) (v : ℕ)
         here : BestKept (bestOf points work probes i (v + 1)) (at nearest′ i) (getD least′ i nan)
         here =
             subst (λ (b : Best). BestKept b (at nearest′ i) (getD least′ i nan)) (sym (after i (ap not (ne-eqb (at work v) 0 (c .head)))))
-            (subst₂ (λ (x : ℕ) (y : Float). BestKept (nearer (bestOf points work probes i v) v (apart (unitsAt points v) (unitsAt probes i))) x y)
+            (subst₂ (λ (x : ℕ) (y : Float). BestKept (closer (bestOf points work probes i v) v (apart (unitsAt points v) (unitsAt probes i))) x y)
             (sym (ap (λ (l : List ℕ). at l i) (e .corners) ∙ set-here nearest i v 0 (le (getD least i nan) d) corner-there)) (sym (ap (λ (l : List Float). getD l i nan) (e .distances) ∙ set-here least i d nan (le (getD least i nan) d) distance-there))
-            (kept-nearer (bestOf points work probes i v) (at nearest i) (getD least i nan) (c .unmet i (omega arith) h) v (apart (unitsAt points v) (unitsAt probes i)) d is most))
+            (kept-closer (bestOf points work probes i v) (at nearest i) (getD least i nan) (c .unmet i (omega arith) h) v (apart (unitsAt points v) (unitsAt probes i)) d is most))
 
         go : (j : ℕ) → j < length probes / 3 → (j ≡ i) ⊎ (j < i) → BestKept (bestOf points work probes j (v + 1)) (at nearest′ j) (getD least′ j nan)
         go j m (inl q) = subst (λ (k : ℕ). BestKept (bestOf points work probes k (v + 1)) (at nearest′ k) (getD least′ k nan)) (sym q) here

@@ -27,15 +27,15 @@ pub data Best : Type 0 where
   nobody : Best
   found : ℕ → ℕ → Best
 
--- the nearer of what is found so far and the next corner: only a smaller distance is nearer
-abbrev pub nearer : Best → ℕ → ℕ → Best
-nearer nobody v d = found v d
-nearer (found w e) v d = cond (ltb d e) (found v d) (found w e)
+-- the closer of what is found so far and the next corner: only a smaller distance is closer
+abbrev pub closer : Best → ℕ → ℕ → Best
+closer nobody v d = found v d
+closer (found w e) v d = cond (ltb d e) (found v d) (found w e)
 
 -- the best of the corners in use below n, in rising order
 unfoldable pub best : (used : ℕ → Bool) (distance : ℕ → ℕ) (n : ℕ) → Best
 best used distance zero = nobody
-best used distance (suc v) = cond (used v) (nearer (best used distance v) v (distance v)) (best used distance v)
+best used distance (suc v) = cond (used v) (closer (best used distance v) v (distance v)) (best used distance v)
 
 -- of a probe
 abbrev pub nearestTo : List Float → List ℕ → WholePoint → Best
