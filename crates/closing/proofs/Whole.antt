@@ -5,7 +5,7 @@ use mathlib.Core.Bool.{Bool, true, false}
 use mathlib.Core.List.{List, _++_}
 use native.Mathlib.Omega.{arith}
 use lib.Dec.{ltb}
-use lib.ListN.{length, drop, replicate, length-replicate, getD-replicate, List·getD-append}
+use lib.ListN.{length, drop, replicate, length-replicate, getD-replicate, List·getD-append, replicate-append-replicate}
 use lib.Seq.{drop-drop, drop-at}
 use borrow.Author.Tests.{ltb-true, ltb-false}
 use Rattle.surface.specs.Triangle.{triangles}
@@ -32,6 +32,12 @@ far-on u m a b h e =
 -- past the cleared words
 pub far-clear : (n : ℕ) (w d : List ℕ) → w ≡ replicate n 0 ++ drop n d → drop n w ≡ drop n d
 far-clear n w d e = ap (drop n) e ∙ drop-at (replicate n 0) (drop n d) n (length-replicate n 0)
+
+-- of words that are 0, any further ones are
+pub drop-zeros : (n k : ℕ) → k ≤ n → drop {A = ℕ} k (replicate n 0) ≡ replicate (n - k) 0
+drop-zeros n k h =
+    let e : k + (n - k) ≡ n = omega arith in
+    ap (drop k) (sym (replicate-append-replicate k (n - k) 0 ∙ ap (λ (m : ℕ). replicate m 0) e)) ∙ drop-at (replicate k 0) (replicate (n - k) 0) k (length-replicate k 0)
 
 -- the lent words are used, then cleared
 pub zeroed-past : (c : List ℕ) (p : ℕ) (w₀ w₁ w₂ : List ℕ) → drop (needed c p) w₁ ≡ drop (needed c p) w₀ → Zeroed c p w₁ w₂ → Zeroed c p w₀ w₂

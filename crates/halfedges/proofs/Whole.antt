@@ -186,7 +186,7 @@ pv₁ q k e = omega arith
 pv₂ : (q k : ℕ) → k ≡ 3 * q + 2 → pv k ≡ 3 * q + 1
 pv₂ q k e = omega arith
 
-nx-nx : (k : ℕ) → nx (nx k) ≡ pv k
+pub nx-nx : (k : ℕ) → nx (nx k) ≡ pv k
 nx-nx k = go (k / 3) (thrice-eq (k / 3)) (turn-of k)
   where
     go : (q : ℕ) → thrice (k / 3) ≡ 3 * q → Turn k → nx (nx k) ≡ pv k

@@ -9,7 +9,7 @@ use Rattle.field.specs.Number.{plusZero}
 use Rattle.surface.specs.Triangle.{triangles, corners}
 use Rattle.surface.proofs.Flat.{corners-triangles}
 use Rattle.halfedges.specs.Place.{at}
-use Rattle.sides.proofs.Whole.{zero-at}
+use Rattle.closing.proofs.Whole.{zero-at}
 use Rattle.surface.specs.Renumber.{renumbered}
 use Rattle.rounds.specs.Renumber.{index, met, walk, firstUse, number}
 use Rattle.rounds.proofs.FirstUse.{walk-is, met-mem}

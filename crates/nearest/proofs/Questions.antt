@@ -6,14 +6,13 @@ use mathlib.Core.Bool.{Bool, true, false, _&&_}
 use mathlib.Core.List.{List, _++_}
 use native.Mathlib.Omega.{arith}
 use lib.Dec.{eqb, leb, ltb}
-use lib.ListN.{length, drop, replicate, length-replicate, replicate-append-replicate}
-use lib.Seq.{drop-at}
+use lib.ListN.{length, drop, replicate, length-replicate}
 use lib.Ieee.{Float}
 use borrow.Author.Tests.{eqb-true, leb-true, ltb-true, eq-eqb, ne-eqb, le-leb, lt-leb}
 use Rattle.surface.proofs.Bools.{both}
 use Rattle.surface.proofs.All.{all-at}
 use Rattle.closing.specs.Closing.{Lent}
-use Rattle.closing.proofs.Whole.{lent-again}
+use Rattle.closing.proofs.Whole.{lent-again, drop-zeros}
 use Rattle.questions.specs.Questions.{ask, andThen, lentQuestions, listed?, needed, cleared, workAfter, lentWords}
 use Rattle.questions.specs.Refusal.{refusalNumber, askedNumber}
 use Rattle.questions.specs.declared.Refusal.{Refusal}
@@ -168,13 +167,6 @@ module _ (points : List Float) (corners labels work : List ℕ) (probes : List F
       go : Ending → nearestQuestions points corners labels work probes room ≡ Passed
       go (stopped n h f) = let e : n ≡ 0 = sym (ap askedNumber f) ∙ z in absurd (omega arith)
       go (passed a f) = f
-
--- ---- the list of answers
-
-pub drop-zeros : (n k : ℕ) → k ≤ n → drop {A = ℕ} k (replicate n 0) ≡ replicate (n - k) 0
-drop-zeros n k h =
-    let e : k + (n - k) ≡ n = omega arith in
-    ap (drop k) (sym (replicate-append-replicate k (n - k) 0 ∙ ap (λ (m : ℕ). replicate m 0) e)) ∙ drop-at (replicate k 0) (replicate (n - k) 0) k (length-replicate k 0)
 
 -- ---- the whole: the answers are wiped first
 

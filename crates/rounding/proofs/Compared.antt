@@ -7,6 +7,7 @@ use native.Mathlib.Omega.{arith}
 use lib.Dec.{eqb, leb, ltb}
 use borrow.Author.Tests.{eqb-true, eqb-false, eq-eqb, ne-eqb, leb-true, leb-false, ltb-true, ltb-false, le-leb, lt-leb, lt-ltb, le-ltb}
 use lib.IntN.{ℤ, pos, negℤ, natAbs, pos-ne-negsuc}
+use lib.Signed.{ltZ}
 use lib.Ieee.{Float, nan, inf, fin, up, down, lt, eq, le, below, level}
 use lib.Ieee.Exact.{HasValue}
 use lib.Ieee.Fits.{down-pos}
@@ -179,3 +180,20 @@ le-numbers {x} {y} {a} {b} {c} h p q = le-values x y (p .sign) (q .sign) (p .siz
         let y = none m a e in
         let z = none n b f in
         (λ i. below true (y .0 i) true (z .0 i) || level true (y .0 i) true (z .0 i)) ∙ (λ i. leb (sym (y .1) i) (sym (z .1) i))
+
+-- ---- order: any whole numbers of one unit
+
+pub lt-integers : {x y : Float} {a b : ℤ} {c : ℕ} → 0 < c → Is x a c → Is y b c → lt x y ≡ ltZ a b
+lt-integers {x} {y} {a} {b} {c} h p q =
+    lt-values x y (p .sign) (q .sign) (p .size) (q .size) c h (p .value) (q .value) ∙ go (p .sign) (q .sign) (p .size) (q .size) ∙ (λ i. ltZ (p .same i) (q .same i))
+  where
+    go : (s t : Bool) (m n : ℕ) → below s m t n ≡ ltZ (signed s m) (signed t n)
+    go false false m n = refl
+    go false true m zero = sym (le-ltb m 0 (omega arith))
+    go false true m (suc n) = refl
+    go true false zero n = ltb-same (λ (l : 0 < 0 + n). omega arith) (λ (l : 0 < n). omega arith)
+    go true false (suc m) n = lt-ltb 0 (suc m + n) (omega arith)
+    go true true zero zero = refl
+    go true true zero (suc n) = le-ltb (suc n) 0 (omega arith)
+    go true true (suc m) zero = lt-ltb 0 (suc m) (omega arith)
+    go true true (suc m) (suc n) = ltb-same (λ (l : suc n < suc m). omega arith) (λ (l : n < m). omega arith)
