@@ -2,6 +2,7 @@
 // pointer. None asks anything of its caller: a bad call is answered with its number.
 use checking::Verdict;
 use editing::Outcome;
+use layers::Layer;
 use price::Quote;
 use questions::Asked;
 ghost use mathlib.Core.Path.{_≡_};
@@ -11,6 +12,7 @@ ghost use Rattle.float.specs.Root.{root};
 ghost use Rattle.lanovishel.specs.Check.{Checked};
 ghost use Rattle.lanovishel.specs.Price.{PriceCall};
 ghost use Rattle.lanovishel.specs.Nearest.{NearestCall};
+ghost use Rattle.lanovishel.specs.Outlines.{OutlinesCall};
 ghost use Rattle.lanovishel.specs.Edit.{EditCall};
 ghost use Rattle.lanovishel.specs.Improve.{ImproveCall};
 
@@ -99,6 +101,36 @@ pub extern "C" fn lanovishel_nearest(
         }
         Asked::Refused(why) => {
             *count = [0];
+            why.number()
+        }
+    }
+}
+
+// The loops in which the plane at half a unit above the height crosses a closed surface: 0 with how many list
+// places are filled and how many loops they hold, or the number of the refusal, with the place of what is found.
+// A list place is two corners, the smaller first, and the loop's number.
+#[no_mangle]
+pub extern "C" fn lanovishel_outlines(
+    points: &[f64],
+    corners: &[u32],
+    labels: &[u8],
+    work: &mut [u32],
+    height: i32,
+    outline: &mut [u32],
+    counts: &mut [u32; 2],
+    place: &mut [u32; 2],
+) -> u32
+    ensures { λ r. ⌜ OutlinesCall (now (points .entry)) (now (corners .entry)) (now (labels .entry)) (now (work .entry)) height (now (outline .entry)) (now (work .exit)) (now (outline .exit)) (now (counts .exit)) (now (place .exit)) r ⌝ }
+{
+    match layers::outlines(points, corners, labels, work, height, outline) {
+        Layer::Listed(places, loops) => {
+            *counts = [low_word(places), low_word(loops)];
+            *place = [0, 0];
+            0
+        }
+        Layer::Refused(why) => {
+            *counts = [0, 0];
+            *place = why.place();
             why.number()
         }
     }
