@@ -89,4 +89,19 @@ uint32_t lanovishel_nearest(const double *points, size_t point_values,
                             uint64_t *answers, size_t answer_words,
                             uint32_t count[1]);
 
+/* The outlines of a layer: the loops in which the plane z = (height + 1/2) / 1024 crosses a closed surface, one that
+ * lanovishel_edit takes. Every coordinate is in whole 1/1024 within 32 either way, those of unused points too, so no
+ * point lies in the plane; height is -32,768 to 32,767. Each side that is crossed gets three words of outline: its
+ * smaller corner, its larger corner, and the number of its loop, from 0. Sides that follow one another in a loop, the
+ * last and the first too, share a triangle. A loop begins with its smallest side, by the smaller corner and then by
+ * the larger, and goes on through the triangle that runs this from the smaller to the larger corner; loops come in the
+ * order of the sides that they begin with. Where the call is accepted, counts has the number of sides and the number
+ * of loops, and outline has the sides, then 0. Else outline and counts are 0. */
+uint32_t lanovishel_outlines(const double *points, size_t point_values,
+                             const uint32_t *corners, size_t corner_numbers,
+                             const uint8_t *labels, size_t label_count,
+                             uint32_t *work, size_t work_words,
+                             int32_t height, uint32_t *outline, size_t outline_words,
+                             uint32_t counts[2], uint32_t place[2]);
+
 #endif

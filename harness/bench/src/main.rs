@@ -1,5 +1,6 @@
 //! Prints the tables of docs/FIGURES.md:
-//! `cargo run --release -p bench -- [root] [check] [closing] [edit] [improve] [price] [nearest]`.
+//! `cargo run --release -p bench -- [root] [check] [closing] [edit] [improve] [price] [nearest]
+//! [outlines]`.
 //! Each table sets ours and theirs side by side, measured in this one run; where the original's
 //! source was not there, its times are those of doing nothing.
 mod check;
@@ -7,12 +8,13 @@ mod closing;
 mod edit;
 mod improve;
 mod nearest;
+mod outlines;
 mod price;
 mod root;
 mod table;
 
 /// A table's name and what prints it.
-const TABLES: [(&str, fn()); 7] = [
+const TABLES: [(&str, fn()); 8] = [
     ("root", root::table),
     ("check", check::table),
     ("closing", closing::table),
@@ -20,6 +22,7 @@ const TABLES: [(&str, fn()); 7] = [
     ("improve", improve::table),
     ("price", price::table),
     ("nearest", nearest::table),
+    ("outlines", outlines::table),
 ];
 
 fn main() {

@@ -37,6 +37,12 @@ pub struct Call {
     pub answers: Vec<u64>,
     /// How many probes are answered.
     pub count: [u32; 1],
+    /// The height of a layer is half a unit more.
+    pub height: i32,
+    /// The sides of a layer's outlines, three words each.
+    pub outline: Vec<u32>,
+    /// How many sides are listed, in how many loops.
+    pub counts: [u32; 2],
     /// Quality and volume.
     pub numbers: [f64; 2],
     /// The price.
@@ -57,6 +63,7 @@ impl Call {
             numbers: [f64::NAN, -1.5],
             cents: [12],
             count: [13],
+            counts: [14, 15],
             answer: [7, 8, 9],
             place: [10, 11],
             ..Self::default()
@@ -96,6 +103,8 @@ impl Call {
         same("probes", &self.probes, &wanted.probes)?;
         same("answers", &self.answers, &wanted.answers)?;
         same("count", &self.count, &wanted.count)?;
+        same("counts", &self.counts, &wanted.counts)?;
+        same("outline", &self.outline, &wanted.outline)?;
         same("numbers", &self.numbers, &wanted.numbers)?;
         same("cents", &self.cents, &wanted.cents)?;
         same("answer", &self.answer, &wanted.answer)
@@ -106,6 +115,18 @@ impl Call {
 pub fn filling(words: usize) -> Vec<u32> {
     (0..words as u32).map(|i| i ^ 0x5a5a_5a5a).collect()
 }
+
+/// What a word to lend may hold, by its place.
+pub const FILLINGS: [fn(u32) -> u32; 8] = [
+    |_| 0,
+    |_| 1,
+    |_| 2,
+    |_| 1 << 31,
+    |_| u32::MAX,
+    |i| i,
+    |i| i + 1,
+    |i| !i,
+];
 
 /// A number that is compared by its bits.
 trait Bits: Copy {

@@ -12,6 +12,7 @@ pub mod finder;
 pub mod history;
 pub mod improving;
 pub mod nearest;
+pub mod outlines;
 pub mod price;
 pub mod questions;
 pub mod random;

@@ -14,6 +14,12 @@ pub type Span = [i64; 2];
 /// The whole range.
 pub const RANGE: Span = [-MOST, MOST];
 
+/// A unit, as it is lent.
+pub const UNIT: f64 = 1.0 / 1_024.0;
+
+/// The first number of units beyond the range.
+pub const BEYOND: f64 = 32.0 + UNIT;
+
 /// How often a surface is drawn at most, before a plain one is taken.
 const DRAWS: u64 = 100;
 
@@ -41,6 +47,23 @@ pub fn stretched(mut shape: Surface) -> Surface {
     shape
 }
 
+/// A torus as wide as the range, a third as high, around the z axis.
+pub fn lying_torus(around: usize, across: usize) -> Surface {
+    let mut shape = torus(around, across);
+    shape.scale([1.0 / 3.0; 3]);
+    stretched(shape)
+}
+
+/// A torus as wide and as high as the range, around the x axis.
+pub fn standing_torus(around: usize, across: usize) -> Surface {
+    let mut torus = lying_torus(around, across);
+    torus
+        .points
+        .chunks_exact_mut(3)
+        .for_each(|point| point.rotate_right(1));
+    torus
+}
+
 /// A box with its lowest corner at `low`, each wall of `cells` times `cells` squares: six is six
 /// times the product of the sides.
 pub fn boxed(low: Point, sides: Point, cells: i64) -> Surface {
@@ -55,7 +78,7 @@ pub fn boxed(low: Point, sides: Point, cells: i64) -> Surface {
 /// A tetrahedron with three legs along the axes, from 0: six is the product of the legs.
 pub fn with_legs(legs: Point) -> Surface {
     let mut shape = tetrahedron();
-    shape.scale(legs.map(|leg| leg as f64 / 1024.0));
+    shape.scale(legs.map(|leg| leg as f64 * UNIT));
     shape
 }
 
@@ -93,11 +116,7 @@ fn turned_out(surface: &mut Surface) -> bool {
 /// often one of them first; at times the triangles by their shares.
 pub fn listed_anew(surface: &Surface, random: &mut Random) -> Surface {
     let mut listed = surface.clone();
-    listed.relist(random);
-    let room = questions::MOST - listed.point_count();
-    let unused = random.within(0, room.min(3));
-    let unused = scattered(random, unused, [RANGE; 3]);
-    listed.renumber_with(random, &lent(&unused));
+    shuffle(&mut listed, random);
     if random.one_in(2) {
         let first = [0; 3].map(|_| {
             let any = between(random, RANGE);
@@ -109,6 +128,15 @@ pub fn listed_anew(surface: &Surface, random: &mut Random) -> Surface {
         list_by_falling_share(&mut listed);
     }
     listed
+}
+
+/// Lists triangles and points in any order, with up to three more unused points.
+pub fn shuffle(surface: &mut Surface, random: &mut Random) {
+    surface.relist(random);
+    let room = questions::MOST - surface.point_count();
+    let unused = random.within(0, room.min(3));
+    let unused = scattered(random, unused, [RANGE; 3]);
+    surface.renumber_with(random, &lent(&unused));
 }
 
 /// Lists the triangles by their shares of the volume, so that no order has larger partial sums. Labels
@@ -131,7 +159,7 @@ fn put_first(surface: &mut Surface, point: Point) {
 
 /// A surface whose points are anywhere in the range or near its ends, or in a part of the range,
 /// there anywhere or as the shape has them; often with an unused first point far from the others.
-fn drawn(random: &mut Random, triangles: usize) -> Surface {
+pub fn drawn(random: &mut Random, triangles: usize) -> Surface {
     let mut surface = pieces(random, triangles);
     let count = surface.point_count();
     let part = some_part(random);
@@ -201,17 +229,33 @@ fn fitted(shape: &Surface, part: [Span; 3]) -> Vec<Point> {
 /// Puts one of the values off the units or the range.
 pub fn put_off(values: &mut [f64], random: &mut Random) {
     let place = random.below(values.len());
-    let beyond = (MOST + 1) as f64 / 1024.0;
-    let half = values[place] + 0.5 / 1024.0;
+    let half = values[place] + 0.5 * UNIT;
     let next = values[place].next_up();
-    values[place] = random.pick(&[beyond, -beyond, half, next]);
+    values[place] = random.pick(&[BEYOND, -BEYOND, half, next]);
 }
+
+/// Finite values that are not in whole units within the range.
+pub fn off() -> Vec<f64> {
+    let just_off = [0.0, UNIT, 1.0, -5.5, 32.0, -32.0]
+        .into_iter()
+        .flat_map(|x: f64| [x.next_up(), x.next_down()]);
+    let far = [33.0, 1e3, 1e19, 2f64.powi(54), 1e300, f64::MAX];
+    [BEYOND, 0.5 * UNIT, 31.0 + 0.5 * UNIT, 0.1, 1e-300]
+        .into_iter()
+        .chain(far)
+        .flat_map(|x| [x, -x])
+        .chain(just_off)
+        .collect()
+}
+
+/// Values that are not finite.
+pub const NOT_FINITE: [f64; 3] = [f64::NAN, f64::INFINITY, f64::NEG_INFINITY];
 
 /// Points in units as they are lent.
 pub fn lent(points: &[Point]) -> Vec<[f64; 3]> {
     points
         .iter()
-        .map(|point| point.map(|x| x as f64 / 1024.0))
+        .map(|point| point.map(|x| x as f64 * UNIT))
         .collect()
 }
 

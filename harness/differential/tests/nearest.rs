@@ -1,7 +1,7 @@
 //! Nearest corners beside the model: the number, the answers, every list. And answers that need no
 //! model.
 use differential::{
-    call::Call,
+    call::{Call, FILLINGS},
     cases,
     nearest::{self, Answer, MOST_PROBES, NONE, in_use, squared},
     questions,
@@ -9,12 +9,8 @@ use differential::{
     report,
     surfaces::{Surface, sphere, tetrahedron},
     volume::{MOST, Point, range_corners, units},
-    whole::{self, RANGE},
+    whole::{self, BEYOND, NOT_FINITE, RANGE, UNIT, off},
 };
-
-/// A unit, and the first number of units beyond the range.
-const UNIT: f64 = 1.0 / 1_024.0;
-const BEYOND: f64 = 32.0 + UNIT;
 
 /// What the random calls met.
 #[derive(Default)]
@@ -323,22 +319,6 @@ fn any_number_of_answer_words() {
     }
 }
 
-/// Finite values that are not in whole units within the range.
-fn off() -> Vec<f64> {
-    let just_off = [0.0, UNIT, 1.0, -5.5, 32.0, -32.0]
-        .into_iter()
-        .flat_map(|x: f64| [x.next_up(), x.next_down()]);
-    let far = [33.0, 1e3, 1e19, 2f64.powi(54), 1e300, f64::MAX];
-    [BEYOND, 0.5 * UNIT, 31.0 + 0.5 * UNIT, 0.1, 1e-300]
-        .into_iter()
-        .chain(far)
-        .flat_map(|x| [x, -x])
-        .chain(just_off)
-        .collect()
-}
-
-const NOT_FINITE: [f64; 3] = [f64::NAN, f64::INFINITY, f64::NEG_INFINITY];
-
 /// In any value of two probes, and in any of four points, of which the first and the last are unused;
 /// also where there are no probes, and no triangles either.
 #[test]
@@ -453,17 +433,7 @@ fn any_work_words() {
     surface.join(&tetrahedron());
     let probes = [[0, 0, 1], [0, 1_000, 0], [1_024, 0, 0]];
     let answers = [1, 1, 3, 24 * 24, 2, 0];
-    let fillings: [fn(u32) -> u32; 8] = [
-        |_| 0,
-        |_| 1,
-        |_| 2,
-        |_| 1 << 31,
-        |_| u32::MAX,
-        |i| i,
-        |i| i + 1,
-        |i| !i,
-    ];
-    for filling in fillings {
+    for filling in FILLINGS {
         for words in [207, 208, 209, 300] {
             let mut call = lent(&surface, &probes);
             call.work = (0..words).map(filling).collect();

@@ -57,12 +57,24 @@ fn nearest_with(work: &mut [u32], surface: &Surface, probes: &[f64]) -> Refusal 
     lanovishel::nearest(points, corners, labels, work, probes, &mut [1; 2]).unwrap_err()
 }
 
+/// Why outlining refuses a surface or a height, with two places.
+fn outlines(surface: &Surface, height: i32) -> Refusal {
+    let mut work = vec![1; surface.work_words()];
+    let Surface {
+        points,
+        corners,
+        labels,
+    } = surface;
+    lanovishel::outlines(points, corners, labels, &mut work, height, &mut [1; 8]).unwrap_err()
+}
+
+/// Why editing refuses a surface, and outlining too; or why it refuses entries.
 fn edit(mut surface: Surface, entries: &[u32]) -> Refusal {
     let mut work = vec![1; surface.work_words()];
     let (corners, labels) = (&mut surface.corners, &mut surface.labels);
     let points = &surface.points;
     let verdicts = &mut [];
-    lanovishel::edit(
+    let refusal = lanovishel::edit(
         points,
         corners,
         labels,
@@ -71,7 +83,11 @@ fn edit(mut surface: Surface, entries: &[u32]) -> Refusal {
         verdicts,
         &mut [],
     )
-    .unwrap_err()
+    .unwrap_err();
+    if entries.is_empty() {
+        assert_eq!(outlines(&surface, 0), refusal);
+    }
+    refusal
 }
 
 fn improve(mut surface: Surface, powers: &[u32], rounds: u32) -> Refusal {
@@ -114,6 +130,8 @@ fn each_has_its_name() {
         check(but(|s| s.double(0))),
         check(but(|s| s.remove(3))),
         check(touching()),
+        outlines(&tetrahedron(), 32_768),
+        outlines(&tetrahedron(), 0),
         nearest(tetrahedron(), &[0.1; 3]),
         price(tetrahedron(), &[]),
     ];
@@ -131,7 +149,7 @@ fn each_has_its_name() {
     }
 }
 
-/// Holds what each of the four functions that ask for a closed surface says to one refusal.
+/// Holds what each of the five functions that ask for a closed surface says to one refusal.
 fn assert_all(surface: Surface, refusal: Refusal) {
     assert_eq!(check(surface.clone()), refusal);
     assert_eq!(price(surface.clone(), &[1]), refusal);

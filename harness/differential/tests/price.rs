@@ -7,12 +7,8 @@ use differential::{
     report,
     surfaces::{Surface, bipyramid, tetrahedron, touching},
     volume::{MOST, Point, range_corners, six, units},
-    whole,
+    whole::{self, BEYOND, UNIT},
 };
-
-/// A unit, and the first number of units beyond the range.
-const UNIT: f64 = 1.0 / 1_024.0;
-const BEYOND: f64 = 32.0 + UNIT;
 
 /// What the random calls met.
 #[derive(Default)]

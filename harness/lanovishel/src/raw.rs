@@ -96,4 +96,21 @@ unsafe extern "C" {
         answer_words: usize,
         count: *mut [u32; 1],
     ) -> u32;
+
+    /// The outlines of a layer; see [`crate::outlines`].
+    pub fn lanovishel_outlines(
+        points: *const f64,
+        point_values: usize,
+        corners: *const u32,
+        corner_numbers: usize,
+        labels: *const u8,
+        label_count: usize,
+        work: *mut u32,
+        work_words: usize,
+        height: i32,
+        outline: *mut u32,
+        outline_words: usize,
+        counts: *mut [u32; 2],
+        place: *mut [u32; 2],
+    ) -> u32;
 }

@@ -86,6 +86,8 @@ refusals! {
         /// The smallest such corner.
         corner: 0
     } "the triangles around corner {corner} are more than one ring"
+    40 OffUnits "the height is outside -32,768..32,767, or a coordinate is not in whole 1/1024 within ±32"
+    41 TooFewPlaces "fewer list places than crossed sides"
     42 Probes "probes are not in threes, more than 64 or more than the answer places, or a coordinate is not in whole 1/1024 within ±32"
     47 NoPrice "a coordinate is not in whole 1/1024 within ±32, or the price sheet is not as it must be"
 }
