@@ -28,7 +28,7 @@ fn verdict(text: &[u8]) -> Verdict {
     let mut corners = [0u32; 768];
     let mut labels = [0u8; 256];
     let mut work = [0u32; 10240];
-    let sheet::Answer::Sheet(n, m) = sheet::read(text, &mut points, &mut corners, &mut labels)
+    let reading::Answer::Sheet(n, m) = reading::read(text, &mut points, &mut corners, &mut labels)
     else {
         return Verdict::Refused(Refusal::Question(16));
     };
@@ -37,7 +37,7 @@ fn verdict(text: &[u8]) -> Verdict {
 
 fn main() {
     // One byte more than the longest sheet has.
-    let mut text = [0u8; 12204];
+    let mut text = [0u8; 12982];
     let n = io::read_full(STDIN_FILENO, &mut text);
     match verdict(&text[..n]) {
         Verdict::Accepted(quality, volume) => print(0, quality, volume),

@@ -1,5 +1,6 @@
--- Laws of calls that answer 0. `Volume`: page twelve's next printing; `Price`: the powder tariff; `Nearest`: nearest corners; `Outlines`: layer outlines.
+-- Laws of calls that answer 0. `Volume`: page twelve's next printing; `Price`: the powder tariff; `Nearest`: nearest corners; `Outlines`: layer outlines. `Sheets` has what the calls on sheets hand on.
 pub mod Volume
 pub mod Price
 pub mod Nearest
 pub mod Outlines
+pub mod Sheets

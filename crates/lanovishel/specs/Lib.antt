@@ -3,6 +3,7 @@ pub mod Check
 pub mod Price
 pub mod Nearest
 pub mod Outlines
+pub mod Sheets
 pub mod Edit
 pub mod Improve
 pub mod Volume

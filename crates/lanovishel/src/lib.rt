@@ -5,6 +5,8 @@ use editing::Outcome;
 use layers::Layer;
 use price::Quote;
 use questions::Asked;
+use reading::Answer;
+use writing::Written;
 ghost use mathlib.Core.Path.{_≡_};
 ghost use Prim.Native.Nat.{_%_, _^_};
 ghost use lib.Ieee.{binary64};
@@ -13,6 +15,7 @@ ghost use Rattle.lanovishel.specs.Check.{Checked};
 ghost use Rattle.lanovishel.specs.Price.{PriceCall};
 ghost use Rattle.lanovishel.specs.Nearest.{NearestCall};
 ghost use Rattle.lanovishel.specs.Outlines.{OutlinesCall};
+ghost use Rattle.lanovishel.specs.Sheets.{ReadSheetCall, WriteSheetCall, ConvertSheetCall};
 ghost use Rattle.lanovishel.specs.Edit.{EditCall};
 ghost use Rattle.lanovishel.specs.Improve.{ImproveCall};
 
@@ -132,6 +135,77 @@ pub extern "C" fn lanovishel_outlines(
             *counts = [0, 0];
             *place = why.place();
             why.number()
+        }
+    }
+}
+
+// The sheet that a text is, of either edition: 0 with its points, corners and labels, and how many points and
+// triangles they are, or the number of the refusal.
+#[no_mangle]
+pub extern "C" fn lanovishel_read_sheet(
+    sheet: &[u8],
+    points: &mut [f64],
+    corners: &mut [u32],
+    labels: &mut [u8],
+    counts: &mut [u32; 2],
+) -> u32
+    ensures { λ r. ⌜ ReadSheetCall (now (sheet .entry)) (now (points .entry)) (now (corners .entry)) (now (labels .entry)) (now (points .exit)) (now (corners .exit)) (now (labels .exit)) (now (counts .exit)) r ⌝ }
+{
+    match reading::read(sheet, points, corners, labels) {
+        Answer::Sheet(n, m) => {
+            *counts = [low_word(n), low_word(m)];
+            0
+        }
+        Answer::Refused(why) => {
+            *counts = [0, 0];
+            why
+        }
+    }
+}
+
+// The text of the sheet that the lists say in an edition, the coordinates in its whole units: 0 with the length
+// of the text, or the number of the refusal.
+#[no_mangle]
+pub extern "C" fn lanovishel_write_sheet(
+    edition: u32,
+    coordinates: &[i32],
+    corners: &[u32],
+    labels: &[u8],
+    written: &mut [u8],
+    count: &mut [u64; 1],
+) -> u32
+    ensures { λ r. ⌜ WriteSheetCall edition (now (coordinates .entry)) (now (corners .entry)) (now (labels .entry)) (now (written .entry)) (now (written .exit)) (now (count .exit)) r ⌝ }
+{
+    match writing::write(edition, coordinates, corners, labels, written) {
+        Written::Is(n) => {
+            *count = [n as u64];
+            0
+        }
+        Written::Refused(why) => {
+            *count = [0];
+            why
+        }
+    }
+}
+
+// The sheet that a text is, in the edition asked for: 0 with the length of the text, or the number of the refusal.
+#[no_mangle]
+pub extern "C" fn lanovishel_convert_sheet(
+    sheet: &[u8],
+    edition: u32,
+    written: &mut [u8],
+    count: &mut [u64; 1],
+) -> u32
+    ensures { λ r. ⌜ ConvertSheetCall (now (sheet .entry)) edition (now (written .entry)) (now (written .exit)) (now (count .exit)) r ⌝ }
+{
+    match converting::convert(sheet, edition, written) {
+        Written::Is(n) => {
+            *count = [n as u64];
+            0
+        }
+        Written::Refused(why) => {
+            *count = [0];
+            why
         }
     }
 }

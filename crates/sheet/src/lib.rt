@@ -1,14 +1,13 @@
-// Reads the text sheet of a triangle surface: `read` says what it is and hands its numbers out. What a
-// sheet is, and its text, is `specs/Sheet.antt`; what each function finds is `specs/Reading.antt`.
+// Reads the text sheet of a triangle surface, of either edition, and hands its whole numbers out. What a
+// sheet is, and its text, is `specs/Sheet.antt`; what each function finds is `specs/Stages.antt`.
 
 ghost use mathlib.Core.Path.{_≡_};
-ghost use Prim.Native.Nat.{_+_, _-_, _*_, _≤_, _<_, _^_};
-ghost use lib.ListN.{length, replicate};
-ghost use lib.IntN.{pos, negsuc};
-ghost use lib.Ieee.{fin};
-ghost use mathlib.Core.Bool.{false};
-ghost use Rattle.sheet.specs.Sheet.{place};
-ghost use Rattle.sheet.specs.Reading.{wordIs, numberIs, placeIs, negativeIs, pointIs, pointsIs, triangleIs, trianglesIs, headIs, sheetIs, readIs};
+ghost use Prim.Native.Nat.{_+_, _*_, _≤_, _<_, _^_};
+ghost use lib.ListN.{length};
+ghost use lib.IntN.{pos};
+ghost use Rattle.sheet.specs.Text.{minus};
+ghost use Rattle.sheet.specs.Edition.{edition};
+ghost use Rattle.sheet.specs.Stages.{wordIs, numberIs, coordinateIs, negativeIs, pointIs, pointsIs, triangleIs, trianglesIs, headIs, sheetIs, TellsEdition, foundIs};
 
 // The place after what was read, or that it does not stand there.
 enum Past {
@@ -19,12 +18,6 @@ enum Past {
 // A number that was read, and the place after it and the byte that ends it.
 enum Numeral {
     Is(u64, usize),
-    No,
-}
-
-// A coordinate that was read, and the place after it and the byte that ends it.
-enum Place {
-    Is(f64, usize),
     No,
 }
 
@@ -40,18 +33,11 @@ enum Filled {
     No,
 }
 
-// What a text is: a sheet, with the counts of its points and of its triangles, or none. `Short` says
-// that a list that was lent is too short, whatever the text is.
-pub enum Answer {
-    Sheet(usize, usize),
-    Malformed,
-    Short,
+// The edition of a sheet, and the counts of its points and of its triangles.
+pub enum Found {
+    Is(u32, usize, usize),
+    No,
 }
-
-// The first edition: coordinates are within ±32,768, in units of 1/1024.
-const MOST: u64 = 32768;
-
-const UNIT: u32 = 1024;
 
 // The word, at a place of the text.
 fn word(text: &[u8], at: usize, w: &[u8]) -> Past
@@ -118,89 +104,83 @@ fn wide(b: u8) -> u64
     b as u64
 }
 
-// A coordinate within ±most, in units of 1/unit, at a place of the text, ended by the byte `end`.
-fn coordinate(text: &[u8], at: usize, most: u64, unit: u32, end: u8) -> Place
-    requires { ⌜ (most < 2 ^ 32) × (end < 45) ⌝ }
-    ensures { λ r. ⌜ placeIs (now (text .entry)) at most unit end r ⌝ }
+// A coordinate within ±most, at a place of the text, ended by the byte `end`: it is stored at k.
+fn coordinate(text: &[u8], at: usize, most: u64, end: u8, k: usize, coordinates: &mut [i32]) -> Past
+    requires { ⌜ (most < 2 ^ 31) × (end < 45) × (k < length (now coordinates)) ⌝ }
+    ensures { λ r. ⌜ coordinateIs (now (text .entry)) at most end k (now (coordinates .entry)) (now (coordinates .exit)) r ⌝ }
 {
     if at >= text.len() {
-        return Place::No;
+        return Past::No;
     }
     if text[at] == 45 {
-        return negative(text, at + 1, most, unit, end);
+        return negative(text, at + 1, most, end, k, coordinates);
     }
     let Numeral::Is(size, next) = number(text, at, most, end) else {
-        return Place::No;
+        return Past::No;
     };
-    Place::Is(above(size as u32, unit), next)
+    let z = above(size);
+    coordinates[k] = z;
+    Past::At(next)
 }
 
 // The coordinate whose `-` stands before the place.
-fn negative(text: &[u8], at: usize, most: u64, unit: u32, end: u8) -> Place
-    requires { ⌜ (most < 2 ^ 32) × (end < 45) ⌝ }
-    ensures { λ r. ⌜ negativeIs (now (text .entry)) at most unit end r ⌝ }
+fn negative(text: &[u8], at: usize, most: u64, end: u8, k: usize, coordinates: &mut [i32]) -> Past
+    requires { ⌜ (most < 2 ^ 31) × (end < 45) × (k < length (now coordinates)) ⌝ }
+    ensures { λ r. ⌜ negativeIs (now (text .entry)) at most end k (now (coordinates .entry)) (now (coordinates .exit)) r ⌝ }
 {
     let Numeral::Is(size, next) = number(text, at, most, end) else {
-        return Place::No;
+        return Past::No;
     };
     if size == 0 {
-        return Place::No;
+        return Past::No;
     }
-    Place::Is(below(size as u32, unit), next)
+    let z = below(size);
+    coordinates[k] = z;
+    Past::At(next)
 }
 
-// size / unit
-fn above(size: u32, unit: u32) -> f64
-    ensures { λ r. ⌜ r ≡ place unit (pos size) ⌝ }
+// The number of that size, and the one below zero.
+pub fn above(size: u64) -> i32
+    requires { ⌜ size < 2 ^ 31 ⌝ }
+    ensures { λ r. ⌜ r ≡ pos size ⌝ }
 {
-    (size as f64) / (unit as f64)
+    size as i32
 }
 
-// -size / unit
-fn below(size: u32, unit: u32) -> f64
-    requires { ⌜ 0 < size ⌝ }
-    ensures { λ r. ⌜ r ≡ place unit (negsuc (size - 1)) ⌝ }
+pub fn below(size: u64) -> i32
+    requires { ⌜ size < 2 ^ 31 ⌝ }
+    ensures { λ r. ⌜ r ≡ minus size ⌝ }
 {
-    (-(size as f64)) / (unit as f64)
+    -(size as i32)
 }
 
 // A line of a point, at a place of the text: its coordinates are stored as the point k.
-fn point(text: &[u8], at: usize, most: u64, unit: u32, k: usize, points: &mut [f64]) -> Past
-    requires { ⌜ (most < 2 ^ 32) × (k * 3 + 2 < length (now points)) ⌝ }
-    ensures { λ r. ⌜ pointIs (now (text .entry)) at most unit k (now (points .entry)) (now (points .exit)) r ⌝ }
+fn point(text: &[u8], at: usize, most: u64, k: usize, coordinates: &mut [i32]) -> Past
+    requires { ⌜ (most < 2 ^ 31) × (k * 3 + 2 < length (now coordinates)) ⌝ }
+    ensures { λ r. ⌜ pointIs (now (text .entry)) at most k (now (coordinates .entry)) (now (coordinates .exit)) r ⌝ }
 {
-    let Place::Is(x, i) = coordinate(text, at, most, unit, 32) else {
-        return Past::No;
-    };
-    let Place::Is(y, j) = coordinate(text, i, most, unit, 32) else {
-        return Past::No;
-    };
-    let Place::Is(z, next) = coordinate(text, j, most, unit, 10) else {
-        return Past::No;
-    };
     let p = k * 3;
-    points[p] = x;
-    points[p + 1] = y;
-    points[p + 2] = z;
+    let Past::At(i) = coordinate(text, at, most, 32, p, coordinates) else {
+        return Past::No;
+    };
+    let Past::At(j) = coordinate(text, i, most, 32, p + 1, coordinates) else {
+        return Past::No;
+    };
+    let Past::At(next) = coordinate(text, j, most, 10, p + 2, coordinates) else {
+        return Past::No;
+    };
     Past::At(next)
 }
 
 // The lines of the points, at a place of the text.
-fn all_points(
-    text: &[u8],
-    at: usize,
-    most: u64,
-    unit: u32,
-    count: usize,
-    points: &mut [f64],
-) -> Past
-    requires { ⌜ (most < 2 ^ 32) × (count * 3 ≤ length (now points)) ⌝ }
-    ensures { λ r. ⌜ pointsIs (now (text .entry)) at most unit count (now (points .entry)) (now (points .exit)) r ⌝ }
+fn all_points(text: &[u8], at: usize, most: u64, count: usize, coordinates: &mut [i32]) -> Past
+    requires { ⌜ (most < 2 ^ 31) × (count * 3 ≤ length (now coordinates)) ⌝ }
+    ensures { λ r. ⌜ pointsIs (now (text .entry)) at most count (now (coordinates .entry)) (now (coordinates .exit)) r ⌝ }
 {
     let mut next = at;
     let mut k = 0;
     while k < count {
-        let Past::At(n) = point(text, next, most, unit, k, points) else {
+        let Past::At(n) = point(text, next, most, k, coordinates) else {
             return Past::No;
         };
         next = n;
@@ -257,11 +237,11 @@ fn all_triangles(
     Past::At(next)
 }
 
-// What stands before the points: two lines of names, with the counts between them.
-fn head(text: &[u8]) -> Counted
-    ensures { λ r. ⌜ headIs (now (text .entry)) r ⌝ }
+// What stands before the points: the opening, the counts, and a line of names.
+fn head(text: &[u8], opening: &[u8]) -> Counted
+    ensures { λ r. ⌜ headIs (now (opening .entry)) (now (text .entry)) r ⌝ }
 {
-    let Past::At(i) = word(text, 0, b"points triangles\n") else {
+    let Past::At(i) = word(text, 0, opening) else {
         return Counted::No;
     };
     let Numeral::Is(n, j) = number(text, i, 128, 32) else {
@@ -276,15 +256,23 @@ fn head(text: &[u8]) -> Counted
     Counted::Is(n as usize, m as usize, next)
 }
 
-// The sheet, into lists that are long enough. Where the text is no sheet, they hold what was read.
-fn sheet(text: &[u8], points: &mut [f64], corners: &mut [u32], labels: &mut [u8]) -> Filled
-    requires { ⌜ (384 ≤ length (now points)) × (768 ≤ length (now corners)) × (256 ≤ length (now labels)) ⌝ }
-    ensures { λ r. ⌜ sheetIs (now (text .entry)) (now (points .entry)) (now (points .exit)) (now (corners .entry)) (now (corners .exit)) (now (labels .entry)) (now (labels .exit)) r ⌝ }
+// The sheet in an edition, into lists that are long enough. Where the text is no sheet, they hold what
+// was read.
+fn sheet(
+    text: &[u8],
+    opening: &[u8],
+    most: u64,
+    coordinates: &mut [i32],
+    corners: &mut [u32],
+    labels: &mut [u8],
+) -> Filled
+    requires { ⌜ (most < 2 ^ 31) × (384 ≤ length (now coordinates)) × (768 ≤ length (now corners)) × (256 ≤ length (now labels)) ⌝ }
+    ensures { λ r. ⌜ sheetIs (now (opening .entry)) most (now (text .entry)) (now (coordinates .entry)) (now (coordinates .exit)) (now (corners .entry)) (now (corners .exit)) (now (labels .entry)) (now (labels .exit)) r ⌝ }
 {
-    let Counted::Is(n, m, at) = head(text) else {
+    let Counted::Is(n, m, at) = head(text, opening) else {
         return Filled::No;
     };
-    let Past::At(i) = all_points(text, at, MOST, UNIT, n, points) else {
+    let Past::At(i) = all_points(text, at, most, n, coordinates) else {
         return Filled::No;
     };
     let Past::At(j) = word(text, i, b"a b c label\n") else {
@@ -299,57 +287,82 @@ fn sheet(text: &[u8], points: &mut [f64], corners: &mut [u32], labels: &mut [u8]
     Filled::Is(n, m)
 }
 
-fn clear_points(points: &mut [f64])
-    ensures { λ r. ⌜ now (points .exit) ≡ replicate (length (now (points .entry))) (fin false 0 (pos 0)) ⌝ }
+// An edition's unit is 1/unit, and its coordinates are within ±most.
+pub fn unit(number: u32) -> u32
+    ensures { λ r. ⌜ r ≡ edition number .unit ⌝ }
 {
-    let mut k = 0;
-    while k < points.len() {
-        points[k] = 0.0;
-        k += 1;
+    if number == 2 {
+        return 65536;
     }
+    1024
 }
 
-fn clear_corners(corners: &mut [u32])
-    ensures { λ r. ⌜ now (corners .exit) ≡ replicate (length (now (corners .entry))) 0 ⌝ }
+pub fn most(number: u32) -> u32
+    ensures { λ r. ⌜ r ≡ edition number .most ⌝ }
 {
-    let mut k = 0;
-    while k < corners.len() {
-        corners[k] = 0;
-        k += 1;
+    if number == 2 {
+        return 2097152;
     }
+    32768
 }
 
-fn clear_labels(labels: &mut [u8])
-    ensures { λ r. ⌜ now (labels .exit) ≡ replicate (length (now (labels .entry))) 0 ⌝ }
+// The edition that the first byte tells.
+fn told(text: &[u8]) -> u32
+    ensures { λ r. ⌜ TellsEdition (now (text .entry)) r ⌝ }
 {
-    let mut k = 0;
-    while k < labels.len() {
-        labels[k] = 0;
-        k += 1;
+    if text.len() == 0 {
+        return 1;
     }
+    if text[0] == b'e' {
+        return 2;
+    }
+    1
 }
 
-// Reads a sheet. Its points' coordinates go to the start of `points`, three for each, its triangles'
-// corners to the start of `corners`, three for each, and their labels to the start of `labels`. Where
-// the text is no sheet, all three lists hold zeros. Where one of them is shorter than the largest sheet
-// wants, 384, 768 and 256 places, they are left alone.
-pub fn read(text: &[u8], points: &mut [f64], corners: &mut [u32], labels: &mut [u8]) -> Answer
-    ensures { λ r. ⌜ readIs (now (text .entry)) (now (points .entry)) (now (points .exit)) (now (corners .entry)) (now (corners .exit)) (now (labels .entry)) (now (labels .exit)) r ⌝ }
+fn in_edition(
+    text: &[u8],
+    number: u32,
+    coordinates: &mut [i32],
+    corners: &mut [u32],
+    labels: &mut [u8],
+) -> Filled
+    requires { ⌜ (384 ≤ length (now coordinates)) × (768 ≤ length (now corners)) × (256 ≤ length (now labels)) ⌝ }
+    ensures { λ r. ⌜ sheetIs (edition number .opening) (edition number .most) (now (text .entry)) (now (coordinates .entry)) (now (coordinates .exit)) (now (corners .entry)) (now (corners .exit)) (now (labels .entry)) (now (labels .exit)) r ⌝ }
 {
-    if points.len() < 384 {
-        return Answer::Short;
+    if number == 2 {
+        return sheet(
+            text,
+            b"edition points triangles\n2 ",
+            2097152,
+            coordinates,
+            corners,
+            labels,
+        );
     }
-    if corners.len() < 768 {
-        return Answer::Short;
-    }
-    if labels.len() < 256 {
-        return Answer::Short;
-    }
-    let Filled::Is(n, m) = sheet(text, points, corners, labels) else {
-        clear_points(points);
-        clear_corners(corners);
-        clear_labels(labels);
-        return Answer::Malformed;
+    sheet(
+        text,
+        b"points triangles\n",
+        32768,
+        coordinates,
+        corners,
+        labels,
+    )
+}
+
+// The whole numbers of a sheet of either edition, into lists that are long enough. Where the text is no
+// sheet, they hold what was read.
+pub fn read_whole(
+    text: &[u8],
+    coordinates: &mut [i32],
+    corners: &mut [u32],
+    labels: &mut [u8],
+) -> Found
+    requires { ⌜ (384 ≤ length (now coordinates)) × (768 ≤ length (now corners)) × (256 ≤ length (now labels)) ⌝ }
+    ensures { λ r. ⌜ foundIs (now (text .entry)) (now (coordinates .entry)) (now (coordinates .exit)) (now (corners .entry)) (now (corners .exit)) (now (labels .entry)) (now (labels .exit)) r ⌝ }
+{
+    let number = told(text);
+    let Filled::Is(n, m) = in_edition(text, number, coordinates, corners, labels) else {
+        return Found::No;
     };
-    Answer::Sheet(n, m)
+    Found::Is(number, n, m)
 }
