@@ -41,8 +41,18 @@ pub struct Call {
     pub height: i32,
     /// The sides of a layer's outlines, three words each.
     pub outline: Vec<u32>,
-    /// How many sides are listed, in how many loops.
+    /// How many sides are listed, in how many loops; or how many points and triangles are read.
     pub counts: [u32; 2],
+    /// The text that is read or converted.
+    pub sheet: Vec<u8>,
+    /// The edition of the sheet to be written.
+    pub edition: u32,
+    /// Three coordinates a point, in whole units of that edition.
+    pub coordinates: Vec<i32>,
+    /// The sheet that is written.
+    pub written: Vec<u8>,
+    /// How many bytes it has.
+    pub length: [u64; 1],
     /// Quality and volume.
     pub numbers: [f64; 2],
     /// The price.
@@ -64,6 +74,7 @@ impl Call {
             cents: [12],
             count: [13],
             counts: [14, 15],
+            length: [16],
             answer: [7, 8, 9],
             place: [10, 11],
             ..Self::default()
@@ -105,6 +116,10 @@ impl Call {
         same("count", &self.count, &wanted.count)?;
         same("counts", &self.counts, &wanted.counts)?;
         same("outline", &self.outline, &wanted.outline)?;
+        same("sheet", &self.sheet, &wanted.sheet)?;
+        same("coordinates", &self.coordinates, &wanted.coordinates)?;
+        same("written", &self.written, &wanted.written)?;
+        same("length", &self.length, &wanted.length)?;
         same("numbers", &self.numbers, &wanted.numbers)?;
         same("cents", &self.cents, &wanted.cents)?;
         same("answer", &self.answer, &wanted.answer)
@@ -136,6 +151,12 @@ trait Bits: Copy {
 impl Bits for u8 {
     fn bits(self) -> u64 {
         self.into()
+    }
+}
+
+impl Bits for i32 {
+    fn bits(self) -> u64 {
+        self.cast_unsigned().into()
     }
 }
 

@@ -17,6 +17,7 @@ pub mod price;
 pub mod questions;
 pub mod random;
 pub mod roots;
+pub mod sheets;
 pub mod surfaces;
 pub mod vectors;
 pub mod volume;

@@ -10,6 +10,7 @@ mod outlines;
 mod price;
 mod refusal;
 mod root;
+mod sheets;
 
 pub mod raw;
 
@@ -21,3 +22,4 @@ pub use outlines::{Outlines, outlines};
 pub use price::{Tariff, price};
 pub use refusal::Refusal;
 pub use root::sqrt;
+pub use sheets::{Edition, Sheet, convert_sheet, read_sheet, write_sheet};

@@ -113,4 +113,41 @@ unsafe extern "C" {
         counts: *mut [u32; 2],
         place: *mut [u32; 2],
     ) -> u32;
+
+    /// What a sheet says; see [`crate::read_sheet`].
+    pub fn lanovishel_read_sheet(
+        sheet: *const u8,
+        sheet_bytes: usize,
+        points: *mut f64,
+        point_values: usize,
+        corners: *mut u32,
+        corner_numbers: usize,
+        labels: *mut u8,
+        label_count: usize,
+        counts: *mut [u32; 2],
+    ) -> u32;
+
+    /// The text of a sheet; see [`crate::write_sheet`].
+    pub fn lanovishel_write_sheet(
+        edition: u32,
+        coordinates: *const i32,
+        coordinate_count: usize,
+        corners: *const u32,
+        corner_numbers: usize,
+        labels: *const u8,
+        label_count: usize,
+        written: *mut u8,
+        written_bytes: usize,
+        count: *mut [u64; 1],
+    ) -> u32;
+
+    /// A sheet in another edition; see [`crate::convert_sheet`].
+    pub fn lanovishel_convert_sheet(
+        sheet: *const u8,
+        sheet_bytes: usize,
+        edition: u32,
+        written: *mut u8,
+        written_bytes: usize,
+        count: *mut [u64; 1],
+    ) -> u32;
 }

@@ -70,6 +70,7 @@ refusals! {
     13 FieldSheet "the field sheet, the levels or the box are not as they must be"
     14 TooManyRounds "more than 1,000 rounds"
     15 Entries "entries are not in threes, or there is not one verdict word an entry"
+    16 NoSheet "the text is no sheet, or the lists or the edition are such as no sheet has"
     31 Repeated {
         /// The corner where the side begins. Of all such sides it is the smallest pair.
         from: 0,
@@ -86,6 +87,8 @@ refusals! {
         /// The smallest such corner.
         corner: 0
     } "the triangles around corner {corner} are more than one ring"
+    35 ListTooShort "a list that is lent for answers is too short for them"
+    38 BetweenUnits "a coordinate is no multiple of 64, so that it lies between units of 1/1024"
     40 OffUnits "the height is outside -32,768..32,767, or a coordinate is not in whole 1/1024 within ±32"
     41 TooFewPlaces "fewer list places than crossed sides"
     42 Probes "probes are not in threes, more than 64 or more than the answer places, or a coordinate is not in whole 1/1024 within ±32"
