@@ -1,7 +1,7 @@
 //! Refusals by their names: docs/NUMBERS.md beside the Rust crate, and small open surfaces whose
 //! place is seen by looking.
 use differential::surfaces::{Surface, pillow, tetrahedron, touching};
-use lanovishel::{Field, Refusal, Tariff};
+use lanovishel::{Edition, Field, Refusal, Tariff};
 
 const NUMBERS: &str = include_str!("../../../docs/NUMBERS.md");
 
@@ -103,6 +103,34 @@ fn improve(mut surface: Surface, powers: &[u32], rounds: u32) -> Refusal {
     lanovishel::improve(points, corners, labels, &mut work, &field, rounds).unwrap_err()
 }
 
+/// A sheet of the second edition, one of whose coordinates is no multiple of 64.
+const FINE: &[u8] = b"edition points triangles\n2 1 1\nx y z\n0 0 1\na b c label\n0 0 0 0\n";
+
+/// Why reading refuses a text, with so many places in each list.
+fn read_sheet(text: &[u8], places: usize) -> Refusal {
+    let (mut points, mut corners) = (vec![1.0; places], vec![1; places]);
+    let mut labels = vec![1; places];
+    lanovishel::read_sheet(text, &mut points, &mut corners, &mut labels).unwrap_err()
+}
+
+/// Why writing refuses points of the first edition, with so many places.
+fn write_sheet(coordinates: &[i32], places: usize) -> Refusal {
+    let mut written = vec![1; places];
+    lanovishel::write_sheet(Edition::First, coordinates, &[], &[], &mut written).unwrap_err()
+}
+
+/// Why converting refuses a text, with so many places.
+fn convert_sheet(text: &[u8], edition: Edition, places: usize) -> Refusal {
+    let mut written = vec![1; places];
+    lanovishel::convert_sheet(text, edition, &mut written).unwrap_err()
+}
+
+/// Holds what the three functions for sheets say to one refusal.
+fn all_alike(refusals: [Refusal; 3]) -> Refusal {
+    assert_eq!(refusals, [refusals[0]; 3]);
+    refusals[0]
+}
+
 fn altered(mut surface: Surface, alter: impl Fn(&mut Surface)) -> Surface {
     alter(&mut surface);
     surface
@@ -127,9 +155,20 @@ fn each_has_its_name() {
         improve(tetrahedron(), &[], 1),
         improve(tetrahedron(), &[1, 0, 0], 1_001),
         edit(tetrahedron(), &[1]),
+        all_alike([
+            read_sheet(&FINE[1..], 9),
+            write_sheet(&[32_769, 0, 0], 99),
+            convert_sheet(&FINE[1..], Edition::First, 99),
+        ]),
         check(but(|s| s.double(0))),
         check(but(|s| s.remove(3))),
         check(touching()),
+        all_alike([
+            read_sheet(FINE, 2),
+            write_sheet(&[32_768, 0, 0], 9),
+            convert_sheet(FINE, Edition::Second, 9),
+        ]),
+        convert_sheet(FINE, Edition::First, 9),
         outlines(&tetrahedron(), 32_768),
         outlines(&tetrahedron(), 0),
         nearest(tetrahedron(), &[0.1; 3]),
