@@ -1,44 +1,26 @@
-/* Says where the surface of a sheet is open. The sheet is as document 01 has it: at most 128 points and 256
- * triangles, coordinates in 1/1024 units. That it is well formed is trusted; check_sheet tests that.
+/* Says where the surface of a sheet is open. The sheet is of either edition, on standard input.
  *   rt staticlib lanovishel && cc -Iinclude examples/where.c target/staticlib/liblanovishel.a -o where
  *   ./where < examples/open.sheet */
 #include "lanovishel.h"
-#include <inttypes.h>
 #include <stdio.h>
 
-enum { POINTS = 128, TRIANGLES = 256 };
+enum { POINTS = LANOVISHEL_SHEET_POINTS, TRIANGLES = LANOVISHEL_SHEET_TRIANGLES };
 
+/* One byte more than the longest sheet has. */
+static uint8_t sheet[LANOVISHEL_SHEET_BYTES + 1];
 static double points[3 * POINTS];
 static uint32_t corners[3 * TRIANGLES];
 static uint8_t labels[TRIANGLES];
 static uint32_t work[LANOVISHEL_WORK_WORDS(POINTS, TRIANGLES)];
 
-/* Reads the sheet and how many points and triangles it has; 0 where it is none. */
-static int read_sheet(size_t *n, size_t *m) {
-    if (scanf(" points triangles %zu %zu x y z", n, m) != 2 || *n > POINTS || *m > TRIANGLES)
-        return 0;
-    for (size_t i = 0; i < 3 * *n; i++) {
-        int units;
-        if (scanf("%d", &units) != 1)
-            return 0;
-        points[i] = units / 1024.0;
-    }
-    if (scanf(" a b c label") != 0)
-        return 0;
-    for (size_t t = 0; t < *m; t++) {
-        uint32_t *abc = corners + 3 * t;
-        if (scanf("%" SCNu32 "%" SCNu32 "%" SCNu32 "%" SCNu8, abc, abc + 1, abc + 2, labels + t) != 4)
-            return 0;
-    }
-    return 1;
-}
-
 int main(void) {
-    size_t n, m;
-    if (!read_sheet(&n, &m)) {
+    size_t bytes = fread(sheet, 1, sizeof sheet, stdin);
+    uint32_t counts[2];
+    if (lanovishel_read_sheet(sheet, bytes, points, 3 * POINTS, corners, 3 * TRIANGLES, labels, TRIANGLES, counts) != 0) {
         puts("no sheet");
         return 1;
     }
+    size_t n = counts[0], m = counts[1];
     double numbers[2];
     uint32_t place[2];
     uint32_t number = lanovishel_check(points, 3 * n, corners, 3 * m, labels, m, work, sizeof work / sizeof *work,

@@ -104,4 +104,41 @@ uint32_t lanovishel_outlines(const double *points, size_t point_values,
                              int32_t height, uint32_t *outline, size_t outline_words,
                              uint32_t counts[2], uint32_t place[2]);
 
+/* How many points, triangles and bytes a sheet of either edition has at most. */
+#define LANOVISHEL_SHEET_POINTS 128
+#define LANOVISHEL_SHEET_TRIANGLES 256
+#define LANOVISHEL_SHEET_BYTES 12981
+
+/* Reads a sheet of either edition: the first is in 1/1024 units within 32,768 either way, the second, whose first
+ * line is "edition points triangles", in 1/65,536 units within 2,097,152 either way. Where the call is accepted,
+ * counts has the number of points and the number of triangles, points has three values for each point, exactly what
+ * the sheet says, corners three numbers and labels one for each triangle, and all three lists are 0 behind. Of the
+ * surface nothing is asked; lanovishel_check does that. Else counts and the three lists are 0: 16 is for a text that is
+ * no sheet, 35 for a list that is too short. */
+uint32_t lanovishel_read_sheet(const uint8_t *sheet, size_t sheet_bytes,
+                               double *points, size_t point_values,
+                               uint32_t *corners, size_t corner_numbers,
+                               uint8_t *labels, size_t label_count,
+                               uint32_t counts[2]);
+
+/* Writes a sheet of edition 1 or 2: coordinates has three for each point, in whole units of the edition within its
+ * range, corners three numbers for each triangle, labels one. Where the call is accepted, count has the number of
+ * bytes, and written has the sheet, then 0; no 0 is part of a sheet. Else count and written are 0: 16 is for what no
+ * sheet of the edition has, 35 for a list that is too short. */
+uint32_t lanovishel_write_sheet(uint32_t edition,
+                                const int32_t *coordinates, size_t coordinate_count,
+                                const uint32_t *corners, size_t corner_numbers,
+                                const uint8_t *labels, size_t label_count,
+                                uint8_t *written, size_t written_bytes,
+                                uint64_t count[1]);
+
+/* Converts a sheet of either edition to edition 1 or 2. What lanovishel_read_sheet gives stays the same to the last
+ * bit; a sheet that is in the edition already is given back as it is. Where the call is accepted, count has the number
+ * of bytes, and written has the sheet, then 0. Else count and written are 0: 16 is for a text that is no sheet, or for
+ * another edition; 38 for a coordinate that is no multiple of 64, of a sheet of edition 2 that is asked for in edition
+ * 1; 35 for a list that is too short. */
+uint32_t lanovishel_convert_sheet(const uint8_t *sheet, size_t sheet_bytes, uint32_t edition,
+                                  uint8_t *written, size_t written_bytes,
+                                  uint64_t count[1]);
+
 #endif
