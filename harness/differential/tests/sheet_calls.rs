@@ -306,6 +306,8 @@ fn folder(name: &str) -> Vec<Vec<u8>> {
 /// Each file of the folder 16, in both editions.
 #[test]
 fn malformed() {
+    // What is well formed stays so.
+    assert!(surface(&malformed_in_the_second(TETRAHEDRON)).is_ok());
     let files = folder("16");
     assert!(files.len() >= 60);
     for text in files {
@@ -686,8 +688,7 @@ fn every_coordinate_of_the_first() {
     }
 }
 
-/// From below the range of the second edition to above it, a coordinate at a time, and all that are
-/// near its ends and near 0.
+/// From one end of the second edition's range to the other, and all that are near its ends and near 0.
 #[test]
 fn coordinates_of_the_second() {
     let far = (-2_097_152..=2_097_152).step_by(601);
