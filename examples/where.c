@@ -15,16 +15,17 @@ static uint32_t work[LANOVISHEL_WORK_WORDS(POINTS, TRIANGLES)];
 
 int main(void) {
     size_t bytes = fread(sheet, 1, sizeof sheet, stdin);
-    uint32_t counts[2];
-    if (lanovishel_read_sheet(sheet, bytes, points, 3 * POINTS, corners, 3 * TRIANGLES, labels, TRIANGLES, counts) != 0) {
+    uint32_t counts[2], place[2];
+    uint32_t number = lanovishel_read_sheet(sheet, bytes, points, 3 * POINTS, corners, 3 * TRIANGLES, labels, TRIANGLES,
+                                            counts);
+    if (number != 0) {
         puts("no sheet");
         return 1;
     }
     size_t n = counts[0], m = counts[1];
     double numbers[2];
-    uint32_t place[2];
-    uint32_t number = lanovishel_check(points, 3 * n, corners, 3 * m, labels, m, work, sizeof work / sizeof *work,
-                                       numbers, place);
+    number = lanovishel_check(points, 3 * n, corners, 3 * m, labels, m, work, sizeof work / sizeof *work,
+                              numbers, place);
     switch (number) {
     case 0:
         puts("0: accepted");

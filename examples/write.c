@@ -9,7 +9,8 @@ int main(void) {
     const uint8_t labels[] = {0, 0, 0, 0};
     uint8_t written[LANOVISHEL_SHEET_BYTES];
     uint64_t count[1];
-    uint32_t number = lanovishel_write_sheet(1, coordinates, 12, corners, 12, labels, 4, written, sizeof written, count);
+    uint32_t number = lanovishel_write_sheet(1, coordinates, 12, corners, 12, labels, 4, written, sizeof written,
+                                             count);
     fwrite(written, 1, count[0], stdout);
     return number != 0;
 }

@@ -56,7 +56,7 @@ struct Met {
     accepted: Vec<u32>,
     /// Accepted calls whose lists are just long enough.
     full: u64,
-    /// As many points as there may be, and as many triangles.
+    /// Accepted calls with as many points as there may be, and with as many triangles.
     most: [u64; 2],
 }
 
@@ -92,7 +92,8 @@ impl Met {
     fn report(&self, numbers: &[u32], accepted: &[u32], runs: u64) {
         report("number", numbers, &self.numbers, runs / 50);
         report("edition", accepted, &self.accepted, runs / 20);
-        println!("full lists: {}, most: {:?}", self.full, self.most);
+        println!("lists without a place more: {}", self.full);
+        println!("128 points, 256 triangles: {:?}", self.most);
         assert!(self.full >= runs / 100);
         assert!(*self.most.iter().min().unwrap() >= runs / 1_000);
     }
@@ -739,11 +740,9 @@ fn coarse_sheets() -> Vec<Vec<u8>> {
     assert!(sheets.len() >= 27);
     for seed in 0..1_000 {
         let text = sheets::random_convert(&mut Random::new(seed)).sheet;
-        sheets.extend(
-            read(&text)
-                .is_some_and(|(e, _)| e == &FIRST)
-                .then_some(text),
-        );
+        if read(&text).is_some_and(|(edition, _)| edition == &FIRST) {
+            sheets.push(text);
+        }
     }
     assert!(sheets.len() >= 300);
     sheets
