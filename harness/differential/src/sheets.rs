@@ -201,38 +201,36 @@ pub enum Kind {
 
 /// The call as the model leaves it.
 pub fn model(kind: Kind, before: &Call) -> Call {
-    let mut after = before.clone();
     match kind {
-        Kind::Read => {
-            let (number, surface) = match told(before) {
-                Ok((edition, content)) => (0, content.surface(edition)),
-                Err(no) => (no.number, Surface::default()),
-            };
-            after.number = number;
-            let lists = &mut after.surface;
-            set_then_0(&mut lists.points, &surface.points);
-            set_then_0(&mut lists.corners, &surface.corners);
-            set_then_0(&mut lists.labels, &surface.labels);
-            after.counts = [surface.point_count(), surface.triangle_count()].map(|n| n as u32);
-        }
-        Kind::Write | Kind::Convert => {
-            let text = match kind {
-                Kind::Write => to_write(before),
-                _ => in_another(before),
-            };
-            let long_enough = |text: &Vec<u8>| ask(text.len() <= before.written.len(), 35);
-            let text = text.and_then(|text| long_enough(&text).map(|()| text));
-            after.number = text.as_ref().map_or_else(|no| no.number, |_| 0);
-            let text = text.unwrap_or_default();
-            after.length = [text.len() as u64];
-            set_then_0(&mut after.written, &text);
-        }
+        Kind::Read => as_read(before, told(before)),
+        Kind::Write => as_written(before, to_write(before)),
+        Kind::Convert => as_written(before, in_another(before)),
     }
+}
+
+fn as_read(before: &Call, found: Result<Surface, No>) -> Call {
+    let mut after = before.clone();
+    after.number = found.as_ref().map_or_else(|no| no.number, |_| 0);
+    let surface = found.unwrap_or_default();
+    set_then_0(&mut after.surface.points, &surface.points);
+    set_then_0(&mut after.surface.corners, &surface.corners);
+    set_then_0(&mut after.surface.labels, &surface.labels);
+    let counts = [surface.point_count(), surface.triangle_count()];
+    after.counts = counts.map(|count| count as u32);
     after
 }
 
-/// What is read into lists that are long enough, or the refusal.
-fn told(call: &Call) -> Result<(&'static Edition, Content), No> {
+fn as_written(before: &Call, found: Result<Vec<u8>, No>) -> Call {
+    let mut after = before.clone();
+    after.number = found.as_ref().map_or_else(|no| no.number, |_| 0);
+    let text = found.unwrap_or_default();
+    set_then_0(&mut after.written, &text);
+    after.length = [text.len() as u64];
+    after
+}
+
+/// The three lists that a sheet tells of, or the refusal.
+fn told(call: &Call) -> Result<Surface, No> {
     let sheet = read(&call.sheet);
     ask(sheet.is_some(), 16)?;
     let (edition, content) = sheet.unwrap();
@@ -240,7 +238,7 @@ fn told(call: &Call) -> Result<(&'static Edition, Content), No> {
     ask(3 * points <= call.surface.points.len(), 35)?;
     ask(3 * triangles <= call.surface.corners.len(), 35)?;
     ask(triangles <= call.surface.labels.len(), 35)?;
-    Ok((edition, content))
+    Ok(content.surface(edition))
 }
 
 /// The text of the lists, or the refusal.
@@ -265,7 +263,7 @@ fn to_write(call: &Call) -> Result<Vec<u8>, No> {
         triangles: triangles.iter().zip(labels).map(triangle).collect(),
     };
     ask(content.fits(edition), 16)?;
-    Ok(content.text(edition))
+    with_room(content.text(edition), call)
 }
 
 /// The text of the sheet in the edition that is asked for, or the refusal.
@@ -276,7 +274,13 @@ fn in_another(call: &Call) -> Result<Vec<u8>, No> {
     let (from, content) = sheet.unwrap();
     let converted = content.converted(from, to);
     ask(converted.is_some(), 38)?;
-    Ok(converted.unwrap().text(to))
+    with_room(converted.unwrap().text(to), call)
+}
+
+/// The text, where the list is long enough for it.
+fn with_room(text: Vec<u8>, call: &Call) -> Result<Vec<u8>, No> {
+    ask(text.len() <= call.written.len(), 35)?;
+    Ok(text)
 }
 
 /// The edition that is asked for, where there is one.
@@ -459,13 +463,15 @@ fn some_content(random: &mut Random, edition: &Edition) -> Content {
         _ => random.within(1, 7),
     };
     let (points, triangles) = (count(MOST_POINTS), count(MOST_TRIANGLES));
-    // Half of the sheets are in whole 1/1024, or all but one of their coordinates are.
+    // Half of the sheets are in whole 1/1024, or all of their coordinates are but one.
     let step = random.pick(&[1, edition.unit / FIRST.unit]);
     let mut point = || [0; 3].map(|_| some_coordinate(random, edition, step).into());
     let mut points: Vec<[i128; 3]> = (0..points).map(|_| point()).collect();
     if !points.is_empty() && random.one_in(6) {
         let [point, axis] = [points.len(), 3].map(|count| random.below(count));
-        points[point][axis] = some_coordinate(random, edition, 1).into();
+        let x = points[point][axis];
+        let any = some_coordinate(random, edition, 1).into();
+        points[point][axis] = random.pick(&[any, x - x.signum()]);
     }
     let triangle = |_| {
         let [a, b, c] = [0; 3].map(|_| some_corner(random).into());
