@@ -6,22 +6,22 @@ use lib.IntN.{ℤ}
 use lib.ListN.{length}
 use lib.Ieee.{Float}
 use Rattle.sheet.specs.Contents.{contents}
-use Rattle.reading.specs.Given.{readingIn, readingNumber, readingCounts, pointsAfter, cornersAfter, labelsAfter}
-use Rattle.writing.specs.Written.{Writing, listText, fitting, writingNumber, writingLength, bytesAfter}
+use Rattle.reading.specs.Given.{readingIn, answerOf, answerNumber, answerCounts, pointsAfter, cornersAfter, labelsAfter}
+use Rattle.writing.specs.Written.{Writing, listText, fitting, writtenOf, writtenNumber, writtenLength, bytesAfter}
 use Rattle.converting.specs.Converting.{conversion}
 
 pub record ReadSheetCall (sheet : List ℕ) (points : List Float) (corners labels : List ℕ) (points′ : List Float) (corners′ labels′ counts′ : List ℕ) (number : ℕ) : Type 0 where
-  pub answer : number ≡ readingNumber (readingIn (contents sheet) points corners labels)
+  pub answer : number ≡ answerNumber (answerOf (readingIn (contents sheet) points corners labels))
   pub point-list : points′ ≡ pointsAfter (length points) (readingIn (contents sheet) points corners labels)
   pub corner-list : corners′ ≡ cornersAfter (length corners) (readingIn (contents sheet) points corners labels)
   pub label-list : labels′ ≡ labelsAfter (length labels) (readingIn (contents sheet) points corners labels)
-  pub counts : counts′ ≡ readingCounts (readingIn (contents sheet) points corners labels)
+  pub counts : counts′ ≡ answerCounts (answerOf (readingIn (contents sheet) points corners labels))
 
 -- what comes of writing, on the list that is lent
 pub record WritingCall (w : Writing) (written written′ count′ : List ℕ) (number : ℕ) : Type 0 where
-  pub answer : number ≡ writingNumber (fitting (length written) w)
+  pub answer : number ≡ writtenNumber (writtenOf (fitting (length written) w))
   pub bytes : written′ ≡ bytesAfter (length written) (fitting (length written) w)
-  pub count : count′ ≡ writingLength (fitting (length written) w) ∷ []
+  pub count : count′ ≡ writtenLength (writtenOf (fitting (length written) w)) ∷ []
 
 abbrev pub WriteSheetCall : (edition : ℕ) (coordinates : List ℤ) (corners labels written written′ count′ : List ℕ) (number : ℕ) → Type 0
 WriteSheetCall edition coordinates corners labels = WritingCall (listText edition coordinates corners labels)

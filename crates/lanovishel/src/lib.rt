@@ -8,9 +8,11 @@ use questions::Asked;
 use reading::Answer;
 use writing::Written;
 ghost use mathlib.Core.Path.{_≡_};
+ghost use mathlib.Core.List.{[], _∷_};
 ghost use Prim.Native.Nat.{_%_, _^_};
 ghost use lib.Ieee.{binary64};
 ghost use Rattle.float.specs.Root.{root};
+ghost use Rattle.writing.specs.Written.{writtenNumber, writtenLength};
 ghost use Rattle.lanovishel.specs.Check.{Checked};
 ghost use Rattle.lanovishel.specs.Price.{PriceCall};
 ghost use Rattle.lanovishel.specs.Nearest.{NearestCall};
@@ -176,16 +178,10 @@ pub extern "C" fn lanovishel_write_sheet(
 ) -> u32
     ensures { λ r. ⌜ WriteSheetCall edition (now (coordinates .entry)) (now (corners .entry)) (now (labels .entry)) (now (written .entry)) (now (written .exit)) (now (count .exit)) r ⌝ }
 {
-    match writing::write(edition, coordinates, corners, labels, written) {
-        Written::Is(n) => {
-            *count = [n as u64];
-            0
-        }
-        Written::Refused(why) => {
-            *count = [0];
-            why
-        }
-    }
+    answered(
+        writing::write(edition, coordinates, corners, labels, written),
+        count,
+    )
 }
 
 // The sheet that a text is, in the edition asked for: 0 with the length of the text, or the number of the refusal.
@@ -198,13 +194,20 @@ pub extern "C" fn lanovishel_convert_sheet(
 ) -> u32
     ensures { λ r. ⌜ ConvertSheetCall (now (sheet .entry)) edition (now (written .entry)) (now (written .exit)) (now (count .exit)) r ⌝ }
 {
-    match converting::convert(sheet, edition, written) {
+    answered(converting::convert(sheet, edition, written), count)
+}
+
+// 0 with the length of the text, or the number of the refusal with 0.
+fn answered(what: Written, count: &mut [u64; 1]) -> u32
+    ensures { λ r. ⌜ (r ≡ writtenNumber what) × (now (count .exit) ≡ writtenLength what ∷ []) ⌝ }
+{
+    match what {
         Written::Is(n) => {
             *count = [n as u64];
             0
         }
         Written::Refused(why) => {
-            *count = [0];
+            *count = [0]; // no text
             why
         }
     }

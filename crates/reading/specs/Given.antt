@@ -32,14 +32,14 @@ abbrev pub answerOf : Reading → Answer
 answerOf (read number s) = declared.Sheet (length (s .points)) (length (s .triangles))
 answerOf (refused number) = declared.Refused number
 
--- as a call gives them: 0 or the number of the refusal; both counts, 0 0 after a refusal
-abbrev pub readingNumber : Reading → ℕ
-readingNumber (read number s) = 0
-readingNumber (refused number) = number
+-- as a call gives it: 0 or the number of the refusal, and the counts, 0 0 after a refusal
+abbrev pub answerNumber : Answer → ℕ
+answerNumber (declared.Sheet n m) = 0
+answerNumber (declared.Refused number) = number
 
-abbrev pub readingCounts : Reading → List ℕ
-readingCounts (read number s) = length (s .points) ∷ length (s .triangles) ∷ []
-readingCounts (refused number) = 0 ∷ 0 ∷ []
+abbrev pub answerCounts : Answer → List ℕ
+answerCounts (declared.Sheet n m) = n ∷ m ∷ []
+answerCounts (declared.Refused number) = 0 ∷ 0 ∷ []
 
 abbrev pub noFloat : Float
 noFloat = fin false 0 (pos 0)

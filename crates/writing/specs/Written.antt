@@ -30,14 +30,14 @@ abbrev pub writtenOf : Writing → Written
 writtenOf (written bytes) = declared.Is (length bytes)
 writtenOf (refused number) = declared.Refused number
 
--- as a call gives them: 0 or the number of the refusal; the length of the text, 0 after a refusal
-abbrev pub writingNumber : Writing → ℕ
-writingNumber (written bytes) = 0
-writingNumber (refused number) = number
+-- as a call gives it: 0 or the number of the refusal, and the length of the text, 0 after a refusal
+abbrev pub writtenNumber : Written → ℕ
+writtenNumber (declared.Is n) = 0
+writtenNumber (declared.Refused number) = number
 
-abbrev pub writingLength : Writing → ℕ
-writingLength (written bytes) = length bytes
-writingLength (refused number) = 0
+abbrev pub writtenLength : Written → ℕ
+writtenLength (declared.Is n) = n
+writtenLength (declared.Refused number) = 0
 
 abbrev pub bytesAfter : (long : ℕ) → Writing → List ℕ
 bytesAfter long (written bytes) = bytes ++ replicate (long - length bytes) 0
