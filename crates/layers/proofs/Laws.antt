@@ -41,6 +41,14 @@ enough points corners labels work height words e l h =
     by-answers points corners labels work height words e (layered-iff points height .1 l)
     ∙ ap (λ (b : Bool). ask b 41 asked.Passed) (le-leb (length (layerCrossings points corners height)) (words / 3) (omega arith))
 
+-- as many words are 0 behind the same places
+same-words : (ps : List Place) (m n : ℕ) (a b : List ℕ) → a ≡ placeWords ps ++ replicate m 0 → b ≡ placeWords ps ++ replicate n 0 → length a ≡ length b → a ≡ b
+same-words ps m n a b e f l =
+    let p = ap length e ∙ length-append (placeWords ps) (replicate m 0) in
+    let q = ap length f ∙ length-append (placeWords ps) (replicate n 0) in
+    let same : m ≡ n = omega (arith, p, q, length-replicate {A = ℕ} m 0, length-replicate {A = ℕ} n 0) in
+    e ∙ ap (λ (k : ℕ). placeWords ps ++ replicate k 0) same ∙ sym f
+
 module _ (Says : List Float → List ℕ → ℤ → List ℕ → Type 0) (lists : (points : List Float) (corners : List ℕ) (height : ℤ) (list : List ℕ) → Says points corners height list → LayerLists points corners height list) where
   closed : (points : List Float) (corners : List ℕ) (height : ℤ) (list : List ℕ) → Says points corners height list → Closed (triangles corners)
   closed points corners height list s = let l = lists points corners height list s in outlinable points corners (l .labels) (l .work) height (length (l .list)) (l .passed) .surface .closed
@@ -56,14 +64,6 @@ module _ (Says : List Float → List ℕ → ℤ → List ℕ → Type 0) (lists
     behind = behind points corners height list s;
     written = lists points corners height list s .places;
   }
-
-  -- as many words are 0 behind the same places
-  same-words : (ps : List Place) (m n : ℕ) (a b : List ℕ) → a ≡ placeWords ps ++ replicate m 0 → b ≡ placeWords ps ++ replicate n 0 → length a ≡ length b → a ≡ b
-  same-words ps m n a b e f l =
-      let p = ap length e ∙ length-append (placeWords ps) (replicate m 0) in
-      let q = ap length f ∙ length-append (placeWords ps) (replicate n 0) in
-      let same : m ≡ n = omega (arith, p, q, length-replicate {A = ℕ} m 0, length-replicate {A = ℕ} n 0) in
-      e ∙ ap (λ (k : ℕ). placeWords ps ++ replicate k 0) same ∙ sym f
 
   only : (points : List Float) (corners : List ℕ) (height : ℤ) (list other : List ℕ) → Says points corners height list → length other ≡ length list → HoldsOutlines points corners height other → other ≡ list
   only points corners height list other s l h =
