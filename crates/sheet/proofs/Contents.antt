@@ -3,7 +3,7 @@ use mathlib.Core.Path.{_≡_, refl, sym, ap, _∙_, subst}
 use mathlib.Core.Logic.{_↔_, _⊎_, inl, inr, ⊎-elim}
 use mathlib.Core.Bool.{Bool, true, false, _&&_, cond, false≢true}
 use mathlib.Core.List.{List, [], _∷_, _++_}
-use Prim.Native.Nat.{ℕ, _^_}
+use Prim.Native.Nat.{ℕ, _≤_, _^_}
 use native.Mathlib.Omega.{arith}
 use lib.IntN.{natAbs}
 use lib.ListN.{length, drop}
@@ -11,11 +11,11 @@ use Rattle.surface.specs.Check.{every}
 use Rattle.sheet.specs.Edition.{edition, IsEdition}
 use Rattle.sheet.specs.Sheet.{Point, Triangle, Sheet, Near, Small, InRange, textAfter, text}
 use Rattle.sheet.specs.Contents.{Contents, nothing, sheet, Says, fields, fieldSheet, near?, small?, inRange?, sameBytes, contentsIn, contents}
-use Rattle.sheet.specs.Laws.{ContentsLaws}
+use Rattle.sheet.specs.Laws.{ContentsLaws, LongestText}
 use Rattle.sheet.proofs.Tests.{both-mean, le-means, lt-means, eq-means, every-means}
 use Rattle.sheet.proofs.Fields.{nil-cons}
 use Rattle.sheet.proofs.FieldTexts.{afterOpening, sheet-taken}
-use Rattle.sheet.proofs.Texts.{by-number, one-edition}
+use Rattle.sheet.proofs.Texts.{by-number, one-edition, longest-first, longest-second}
 
 -- ---- what the tests mean
 
@@ -121,3 +121,8 @@ module _ (input : List ℕ) where
 
 pub contents-laws : ContentsLaws
 contents-laws = record { says = contents-says; said = contents-said; nothing = contents-nothing }
+
+pub longest-text : LongestText
+longest-text input number s h =
+    subst (λ (l : List ℕ). length l ≤ 12981) (sym (h .is-text))
+    (by-number (λ (n : ℕ). InRange (edition n .most) s → length (text (edition n) s) ≤ 12981) (λ ok. let l = longest-first s ok in omega arith) (longest-second s) number (h .known) (h .in-range))

@@ -1,8 +1,9 @@
 -- What is proved of sheets and their editions, in `proofs/Texts`, `proofs/Contents` and `proofs/Conversion`. Each law takes the edition's unit, range and opening as they come, and so covers both. Definitions only.
-use Prim.Native.Nat.{ℕ, _<_, _^_}
+use Prim.Native.Nat.{ℕ, _≤_, _<_, _^_}
 use mathlib.Core.Path.{_≡_}
 use mathlib.Core.Bool.{true}
 use mathlib.Core.List.{List}
+use lib.ListN.{length}
 use Rattle.sheet.specs.Edition.{Edition, edition, IsEdition}
 use Rattle.sheet.specs.Sheet.{Sheet, InRange, text, placesOf, cornersOf, labelsOf}
 use Rattle.sheet.specs.Contents.{Contents, Says, contents}
@@ -22,6 +23,10 @@ pub record ContentsLaws : Type 0 where
   pub says : (input : List ℕ) (number : ℕ) (s : Sheet) → contents input ≡ Contents.sheet number s → Says input number s
   pub said : (input : List ℕ) (number : ℕ) (s : Sheet) → Says input number s → contents input ≡ Contents.sheet number s
   pub nothing : (input : List ℕ) → ((number : ℕ) (s : Sheet) → Says input number s → ⊥) → contents input ≡ Contents.nothing
+
+-- no sheet of either edition has more than 12,981 bytes
+abbrev pub LongestText : Type 0
+LongestText = (input : List ℕ) (number : ℕ) (s : Sheet) → Says input number s → length input ≤ 12981
 
 -- an edition whose unit and coordinates are whole floats
 pub record Exact (e : Edition) : Type 0 where
