@@ -1,6 +1,7 @@
--- Laws of calls that answer 0. `Volume`: page twelve's next printing; `Price`: the powder tariff; `Nearest`: nearest corners; `Outlines`: layer outlines. `Sheets` has what the calls on sheets hand on.
+-- Laws of calls that answer 0. `Volume`: page twelve's next printing; `Price`: the powder tariff; `Nearest`: nearest corners; `Outlines`: layer outlines. `Sheets` has what the calls on sheets hand on, `SheetLaws` their laws.
 pub mod Volume
 pub mod Price
 pub mod Nearest
 pub mod Outlines
 pub mod Sheets
+pub mod SheetLaws
