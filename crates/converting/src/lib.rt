@@ -55,7 +55,7 @@ fn turn_all(from: u32, asked: u32, count: usize, coordinates: &mut [i32]) -> boo
 pub fn convert(text: &[u8], asked: u32, written: &mut [u8]) -> Written
     ensures { λ r. ⌜ Leaves (conversion (contents (now (text .entry))) asked) (now (written .entry)) (now (written .exit)) r ⌝ }
 {
-    writing::clear(written);
+    sheet::clear(written);
     if asked < 1 {
         return Written::Refused(16);
     }

@@ -57,16 +57,6 @@ fn clear_corners(corners: &mut [u32])
     }
 }
 
-fn clear_labels(labels: &mut [u8])
-    ensures { λ r. ⌜ now (labels .exit) ≡ replicate (length (now (labels .entry))) 0 ⌝ }
-{
-    let mut k = 0;
-    while k < labels.len() {
-        labels[k] = 0;
-        k += 1;
-    }
-}
-
 // The first `count` corners.
 fn copy_corners(source: &[u32], count: usize, corners: &mut [u32])
     requires { ⌜ (count ≤ length (now source)) × (count ≤ length (now corners)) ⌝ }
@@ -99,7 +89,7 @@ pub fn read(text: &[u8], points: &mut [f64], corners: &mut [u32], labels: &mut [
 {
     clear_points(points);
     clear_corners(corners);
-    clear_labels(labels);
+    sheet::clear(labels);
     let mut coordinates = [0i32; 384];
     let mut all_corners = [0u32; 768];
     let mut all_labels = [0u8; 256];

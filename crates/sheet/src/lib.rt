@@ -3,7 +3,7 @@
 
 ghost use mathlib.Core.Path.{_≡_};
 ghost use Prim.Native.Nat.{_+_, _*_, _≤_, _<_, _^_};
-ghost use lib.ListN.{length};
+ghost use lib.ListN.{length, replicate};
 ghost use lib.IntN.{pos};
 ghost use Rattle.sheet.specs.Text.{minus};
 ghost use Rattle.sheet.specs.Edition.{edition};
@@ -365,4 +365,15 @@ pub fn read_whole(
         return Found::No;
     };
     Found::Is(number, n, m)
+}
+
+// Zeros, in the place of all that stood there.
+pub fn clear(bytes: &mut [u8])
+    ensures { λ r. ⌜ now (bytes .exit) ≡ replicate (length (now (bytes .entry))) 0 ⌝ }
+{
+    let mut k = 0;
+    while k < bytes.len() {
+        bytes[k] = 0;
+        k += 1;
+    }
 }

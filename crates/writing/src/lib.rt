@@ -8,7 +8,7 @@ ghost use mathlib.Core.Path.{_≡_};
 ghost use mathlib.Core.Bool.{not};
 ghost use mathlib.Core.List.{[], _∷_};
 ghost use Prim.Native.Nat.{_+_, _*_, _≤_, _<_, _^_};
-ghost use lib.ListN.{length, replicate};
+ghost use lib.ListN.{length};
 ghost use lib.IntN.{natAbs};
 ghost use lib.Signed.{nonNeg};
 ghost use Rattle.surface.specs.Check.{every};
@@ -227,16 +227,6 @@ fn within(coordinates: &[i32], most: u32) -> bool
     true
 }
 
-pub fn clear(written: &mut [u8])
-    ensures { λ r. ⌜ now (written .exit) ≡ replicate (length (now (written .entry))) 0 ⌝ }
-{
-    let mut k = 0;
-    while k < written.len() {
-        written[k] = 0;
-        k += 1;
-    }
-}
-
 // What comes of a text that needs `count` bytes: 38 where it is not exact, then 35 where there is no room
 // for it. A refusal leaves zeros.
 pub fn settled(exact: bool, count: usize, written: &mut [u8]) -> Written
@@ -244,11 +234,11 @@ pub fn settled(exact: bool, count: usize, written: &mut [u8]) -> Written
 {
     let room = count <= written.len();
     if !exact {
-        clear(written);
+        sheet::clear(written);
         return Written::Refused(38);
     }
     if !room {
-        clear(written);
+        sheet::clear(written);
         return Written::Refused(35);
     }
     Written::Is(count)
@@ -265,7 +255,7 @@ pub fn write(
 ) -> Written
     ensures { λ r. ⌜ Leaves (listText number (now (coordinates .entry)) (now (corners .entry)) (now (labels .entry))) (now (written .entry)) (now (written .exit)) r ⌝ }
 {
-    clear(written);
+    sheet::clear(written);
     if number < 1 {
         return Written::Refused(16);
     }

@@ -21,8 +21,8 @@ clear-points-requires c κs = search needs
 clear-corners-requires : tie.Need-clear-corners-requires
 clear-corners-requires c κs = search needs
 
-clear-labels-requires : tie.Need-clear-labels-requires
-clear-labels-requires c κs = search needs
+clear-requires : tie.Need-clear-requires
+clear-requires c κs = search needs
 
 slice-aggregate-read-whole : tie.Need-slice-aggregate-read-whole
 slice-aggregate-read-whole c = search needs
@@ -53,7 +53,7 @@ same-length-3 c = search needs
 
 returns : tie.Need-returns
 returns c =
-    gives-16 _ _ _ _ _ _ _ (nothing-said _ _ _ _ _ _ _ _ (c .before .before .before .before .before .read-whole .ensures) (c .enum-told .given .1)) (c .before .before .before .before .before .before .before .before .before .before .before .before .before .before .before .before .before .before .before .clear-points .ensures) (c .before .before .before .before .before .before .before .before .before .before .before .before .before .before .before .clear-corners .ensures) (c .before .before .before .before .before .before .before .before .before .before .before .clear-labels .ensures)
+    gives-16 _ _ _ _ _ _ _ (nothing-said _ _ _ _ _ _ _ _ (c .before .before .before .before .before .read-whole .ensures) (c .enum-told .given .1)) (c .before .before .before .before .before .before .before .before .before .before .before .before .before .before .before .before .before .before .before .clear-points .ensures) (c .before .before .before .before .before .before .before .before .before .before .before .before .before .before .before .clear-corners .ensures) (c .before .before .before .before .before .before .before .before .before .before .before .clear .ensures)
 
 mul-if1 : tie.Need-mul-if1
 mul-if1 c = omega (arith, few c .0)
@@ -70,7 +70,7 @@ same-length-6 c = search needs
 returns-2 : tie.Need-returns-2
 returns-2 c =
     let k = c .before .before .before .before .before .before .before .before .before .before .before .before .before .before .before .before .before .before .before .before .before .clear-points .kept .0 in
-    gives-35 _ _ _ _ _ _ _ _ _ _ _ _ _ _ _ _ (is-found _ _ _ _ _ _ _ _ (c .before .before .before .before .before .before .before .read-whole .ensures) _ _ _ (c .before .before .number .given .1)) (λ h. omega (arith, h .0, c .if1 .taken)) (c .before .before .before .before .before .before .before .before .before .before .before .before .before .before .before .before .before .before .before .before .before .clear-points .ensures) (c .before .before .before .before .before .before .before .before .before .before .before .before .before .before .before .before .before .clear-corners .ensures) (c .before .before .before .before .before .before .before .before .before .before .before .before .before .clear-labels .ensures)
+    gives-35 _ _ _ _ _ _ _ _ _ _ _ _ _ _ _ _ (is-found _ _ _ _ _ _ _ _ (c .before .before .before .before .before .before .before .read-whole .ensures) _ _ _ (c .before .before .number .given .1)) (λ h. omega (arith, h .0, c .if1 .taken)) (c .before .before .before .before .before .before .before .before .before .before .before .before .before .before .before .before .before .before .before .before .before .clear-points .ensures) (c .before .before .before .before .before .before .before .before .before .before .before .before .before .before .before .before .before .clear-corners .ensures) (c .before .before .before .before .before .before .before .before .before .before .before .before .before .clear .ensures)
 
 mul-if2 : tie.Need-mul-if2
 mul-if2 c = omega (arith, few (c .before) .1)
@@ -87,7 +87,7 @@ same-length-9 c = search needs
 returns-3 : tie.Need-returns-3
 returns-3 c =
     let k = c .before .before .before .before .before .before .before .before .before .before .before .before .before .before .before .before .before .before .clear-corners .kept .0 in
-    gives-35 _ _ _ _ _ _ _ _ _ _ _ _ _ _ _ _ (is-found _ _ _ _ _ _ _ _ (c .before .before .before .before .before .before .before .before .read-whole .ensures) _ _ _ (c .before .before .before .number .given .1)) (λ h. omega (arith, h .1 .0, c .if2 .taken)) (c .before .before .before .before .before .before .before .before .before .before .before .before .before .before .before .before .before .before .before .before .before .before .clear-points .ensures) (c .before .before .before .before .before .before .before .before .before .before .before .before .before .before .before .before .before .before .clear-corners .ensures) (c .before .before .before .before .before .before .before .before .before .before .before .before .before .before .clear-labels .ensures)
+    gives-35 _ _ _ _ _ _ _ _ _ _ _ _ _ _ _ _ (is-found _ _ _ _ _ _ _ _ (c .before .before .before .before .before .before .before .before .read-whole .ensures) _ _ _ (c .before .before .before .number .given .1)) (λ h. omega (arith, h .1 .0, c .if2 .taken)) (c .before .before .before .before .before .before .before .before .before .before .before .before .before .before .before .before .before .before .before .before .before .before .clear-points .ensures) (c .before .before .before .before .before .before .before .before .before .before .before .before .before .before .before .before .before .before .clear-corners .ensures) (c .before .before .before .before .before .before .before .before .before .before .before .before .before .before .clear .ensures)
 
 same-length-10 : tie.Need-same-length-10
 same-length-10 c = search needs
@@ -100,8 +100,8 @@ same-length-12 c = search needs
 
 returns-4 : tie.Need-returns-4
 returns-4 c =
-    let k = c .before .before .before .before .before .before .before .before .before .before .before .before .before .before .before .clear-labels .kept .0 in
-    gives-35 _ _ _ _ _ _ _ _ _ _ _ _ _ _ _ _ (is-found _ _ _ _ _ _ _ _ (c .before .before .before .before .before .before .before .before .before .read-whole .ensures) _ _ _ (c .before .before .before .before .number .given .1)) (λ h. omega (arith, h .1 .1, c .if3 .taken)) (c .before .before .before .before .before .before .before .before .before .before .before .before .before .before .before .before .before .before .before .before .before .before .before .clear-points .ensures) (c .before .before .before .before .before .before .before .before .before .before .before .before .before .before .before .before .before .before .before .clear-corners .ensures) (c .before .before .before .before .before .before .before .before .before .before .before .before .before .before .before .clear-labels .ensures)
+    let k = c .before .before .before .before .before .before .before .before .before .before .before .before .before .before .before .clear .kept .0 in
+    gives-35 _ _ _ _ _ _ _ _ _ _ _ _ _ _ _ _ (is-found _ _ _ _ _ _ _ _ (c .before .before .before .before .before .before .before .before .before .read-whole .ensures) _ _ _ (c .before .before .before .before .number .given .1)) (λ h. omega (arith, h .1 .1, c .if3 .taken)) (c .before .before .before .before .before .before .before .before .before .before .before .before .before .before .before .before .before .before .before .before .before .before .before .clear-points .ensures) (c .before .before .before .before .before .before .before .before .before .before .before .before .before .before .before .before .before .before .before .clear-corners .ensures) (c .before .before .before .before .before .before .before .before .before .before .before .before .before .before .before .clear .ensures)
 
 slice-aggregate-places : tie.Need-slice-aggregate-places
 slice-aggregate-places c = search needs
@@ -155,8 +155,8 @@ returns-5 : tie.Need-returns-5
 returns-5 c =
     let kp = c .before .before .before .before .before .before .before .before .before .before .before .before .before .before .before .before .before .before .before .before .before .before .before .before .before .before .before .before .before .before .before .before .before .before .before .before .before .before .before .clear-points .kept .0 in
     let kc = c .before .before .before .before .before .before .before .before .before .before .before .before .before .before .before .before .before .before .before .before .before .before .before .before .before .before .before .before .before .before .before .before .before .before .before .clear-corners .kept .0 in
-    let kl = c .before .before .before .before .before .before .before .before .before .before .before .before .before .before .before .before .before .before .before .before .before .before .before .before .before .before .before .before .before .before .before .clear-labels .kept .0 in
-    gives-sheet _ _ _ _ _ _ _ _ _ _ _ _ _ _ _ _ (is-found _ _ _ _ _ _ _ _ (c .before .before .before .before .before .before .before .before .before .before .before .before .before .before .before .before .before .before .before .before .before .before .before .before .before .read-whole .ensures) _ _ _ (c .before .before .before .before .before .before .before .before .before .before .before .before .before .before .before .before .before .before .before .before .number .given .1)) _ _ _ _ (omega (arith, c .before .before .before .before .before .before .before .before .before .before .before .before .before .before .before .before .before .before .if1 .left)) (omega (arith, c .before .before .before .before .before .before .before .before .before .before .before .before .before .before .before .before .before .if2 .left)) (omega (arith, c .before .before .before .before .before .before .before .before .before .before .before .before .before .before .before .before .if3 .left)) (c .before .before .before .before .before .before .before .before .before .before .before .before .before .before .unit .ensures) (c .before .before .before .before .before .before .before .before .before .before .before .before .before .before .before .before .before .before .before .before .before .before .before .before .before .before .before .before .before .before .before .before .before .before .before .before .before .before .before .clear-points .ensures) (c .before .before .before .before .before .before .before .before .before .before .before .before .places .ensures) (c .before .before .before .before .before .before .before .before .before .before .before .before .before .before .before .before .before .before .before .before .before .before .before .before .before .before .before .before .before .before .before .before .before .before .before .clear-corners .ensures) (c .before .before .before .before .before .before .before .copy-corners .ensures) (c .before .before .before .before .before .before .before .before .before .before .before .before .before .before .before .before .before .before .before .before .before .before .before .before .before .before .before .before .before .before .before .clear-labels .ensures) (c .before .before .copy-labels .ensures)
+    let kl = c .before .before .before .before .before .before .before .before .before .before .before .before .before .before .before .before .before .before .before .before .before .before .before .before .before .before .before .before .before .before .before .clear .kept .0 in
+    gives-sheet _ _ _ _ _ _ _ _ _ _ _ _ _ _ _ _ (is-found _ _ _ _ _ _ _ _ (c .before .before .before .before .before .before .before .before .before .before .before .before .before .before .before .before .before .before .before .before .before .before .before .before .before .read-whole .ensures) _ _ _ (c .before .before .before .before .before .before .before .before .before .before .before .before .before .before .before .before .before .before .before .before .number .given .1)) _ _ _ _ (omega (arith, c .before .before .before .before .before .before .before .before .before .before .before .before .before .before .before .before .before .before .if1 .left)) (omega (arith, c .before .before .before .before .before .before .before .before .before .before .before .before .before .before .before .before .before .if2 .left)) (omega (arith, c .before .before .before .before .before .before .before .before .before .before .before .before .before .before .before .before .if3 .left)) (c .before .before .before .before .before .before .before .before .before .before .before .before .before .before .unit .ensures) (c .before .before .before .before .before .before .before .before .before .before .before .before .before .before .before .before .before .before .before .before .before .before .before .before .before .before .before .before .before .before .before .before .before .before .before .before .before .before .before .clear-points .ensures) (c .before .before .before .before .before .before .before .before .before .before .before .before .places .ensures) (c .before .before .before .before .before .before .before .before .before .before .before .before .before .before .before .before .before .before .before .before .before .before .before .before .before .before .before .before .before .before .before .before .before .before .before .clear-corners .ensures) (c .before .before .before .before .before .before .before .copy-corners .ensures) (c .before .before .before .before .before .before .before .before .before .before .before .before .before .before .before .before .before .before .before .before .before .before .before .before .before .before .before .before .before .before .before .clear .ensures) (c .before .before .copy-labels .ensures)
 
 pub read-spec : {M : Type 1} → statement M
 read-spec =
@@ -164,7 +164,7 @@ read-spec =
     (tie.spec
     clear-points-requires
     clear-corners-requires
-    clear-labels-requires
+    clear-requires
     slice-aggregate-read-whole
     slice-aggregate-read-whole-2
     slice-aggregate-read-whole-3
