@@ -1,6 +1,6 @@
 -- What `convert` leaves, by what was found. Assumes nothing.
 use mathlib.Core.Path.{_≡_, refl, sym, ap, _∙_, subst}
-use mathlib.Core.Bool.{Bool, true, false, _&&_, cond}
+use mathlib.Core.Bool.{Bool, false, _&&_, cond, and-assoc}
 use mathlib.Core.List.{List, [], _∷_, _++_, map}
 use Prim.Native.Nat.{ℕ, _*_, _≤_, _<_}
 use native.Mathlib.Omega.{arith}
@@ -49,12 +49,12 @@ module _ (u v : ℕ) where
   coordinates-fit : (ps : List Point) → every (fits? u v) (coordinatesOf ps) ≡ every (pointFits? u v) ps
   unfolding every
   coordinates-fit [] = refl
-  coordinates-fit (p ∷ ps) = ap (λ (t : Bool). fits? u v (p .x) && (fits? u v (p .y) && (fits? u v (p .z) && t))) (coordinates-fit ps) ∙ three (fits? u v (p .x)) (fits? u v (p .y)) (fits? u v (p .z)) (every (pointFits? u v) ps)
-    where
-      three : (a b c d : Bool) → (a && (b && (c && d))) ≡ ((a && (b && c)) && d)
-      three true true c d = refl
-      three true false c d = refl
-      three false b c d = refl
+  coordinates-fit (p ∷ ps) =
+      let x = fits? u v (p .x) in
+      let y = fits? u v (p .y) in
+      let z = fits? u v (p .z) in
+      let rest = every (pointFits? u v) ps in
+      ap (λ (t : Bool). x && (y && (z && t))) (coordinates-fit ps) ∙ sym (and-assoc x (y && z) rest ∙ ap (λ (t : Bool). x && t) (and-assoc y z rest))
 
 -- ---- a sheet that was found, and turned
 

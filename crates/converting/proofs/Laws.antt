@@ -19,7 +19,7 @@ use Rattle.reading.specs.Given.{read, noFloat, holds?, readingOf}
 use Rattle.reading.specs.Given as Given
 use Rattle.reading.specs.declared.Answer.the-variants as declared
 use Rattle.writing.specs.Lists.{isEdition?}
-use Rattle.writing.specs.Written.{Writing, written, refused}
+use Rattle.writing.specs.Written.{written, refused}
 use Rattle.writing.proofs.Laws.{only-passed}
 use Rattle.converting.specs.Converting.{unitOf, sheetConversion, conversion}
 use Rattle.converting.specs.Laws.{SameReading, ConvertingLaws}
@@ -58,12 +58,7 @@ module _ (input : List ℕ) (number asked : ℕ) (s : Sheet) (said : contents in
 
 -- ---- a conversion that came
 
--- a text comes only where the test passes
-only-where : (t : Bool) (w : Writing) (number : ℕ) (bytes : List ℕ) → cond t w (refused number) ≡ written bytes → (t ≡ true) × (w ≡ written bytes)
-only-where true w number bytes e = (refl, e)
-only-where false w number bytes e = let bad : _≡_ {A = ℕ} 0 1 = cc in absurd (omega arith)
-
--- and only of a sheet
+-- a text comes only of a sheet
 only-of-sheet : (P : Contents → Type 0) (c : Contents) (asked : ℕ) (bytes : List ℕ) → conversion c asked ≡ written bytes → ((number : ℕ) (s : Sheet) → c ≡ Contents.sheet number s → P c) → P c
 only-of-sheet P Contents.nothing asked bytes e f = let bad : _≡_ {A = ℕ} 0 1 = cc in absurd (omega arith)
 only-of-sheet P (Contents.sheet number s) asked bytes e f = f number s refl
@@ -81,8 +76,9 @@ module _ (input converted : List ℕ) (number asked : ℕ) (s : Sheet) (said : c
   came : Came input converted number asked s t
   came =
       let h = contents-laws .says input number s said in
-      let outer = only-where (isEdition? asked) (sheetConversion number asked s) 16 converted (ap (λ (c : Contents). conversion c asked) (sym said) ∙ e) in
-      let inner = only-passed (convertible? (unitOf number) (unitOf asked) s) (text (edition asked) t) 38 converted (outer .1) in
+      let outer = only-passed (isEdition? asked) (sheetConversion number asked s) 16 converted (ap (λ (c : Contents). conversion c asked) (sym said) ∙ e) in
+      let inner = only-passed (convertible? (unitOf number) (unitOf asked) s) (written (text (edition asked) t)) 38 converted (outer .1) in
+      let same-text = inner .1 in
       let known = both-mean (le-means 1 asked) (le-means asked 2) .0 (outer .0) in
       let some = unit-some number (h .known) in
       record {
@@ -90,7 +86,7 @@ module _ (input converted : List ℕ) (number asked : ℕ) (s : Sheet) (said : c
         to = record {
           known = known;
           in-range = in-range (unitOf number) (unitOf asked) (edition number .most) (edition asked .most) some (same-ends number asked (h .known) known) s (h .in-range);
-          is-text = sym (inner .1);
+          is-text = cc;
         };
         same = conversion-laws .computed (unitOf number) (unitOf asked) some (unit-some asked known) s (inner .0);
       }

@@ -10,32 +10,28 @@ use lib.ListN.{length, getD, take, drop, set, length-map}
 use lib.Seq.{getD-take, getD-at, drop-cons, length-take-le}
 use lib.Signed.{mag, nonNeg}
 use mir.Syntax.{w32}
-use mir.Val.{SFits, toZ, ofZ}
-use mir.ValLaws.{toZ-ofZ}
+use mir.Val.{toZ, ofZ}
 use Rattle.surface.specs.Check.{every}
 use Rattle.surface.proofs.All.{all-and, all-done}
 use Rattle.sheet.specs.Text.{minus}
 use Rattle.sheet.specs.Conversion.{fits?, inUnit}
-use Rattle.sheet.proofs.Signs.{minus-small}
+use Rattle.sheet.proofs.Signs.{minus-small, back}
 use Rattle.sheet.proofs.Stores.{map-more}
 use Rattle.converting.specs.Converting.{unitOf}
 use Rattle.converting.specs.Stages.{signedAs, TurnedFirst}
 
 -- ---- a number of a size with a sign
 
-signed-back : (y n : ℤ) → SFits w32 n → y ≡ n → toZ w32 (ofZ w32 y) ≡ n
-signed-back y n f e = ap (λ (x : ℤ). toZ w32 (ofZ w32 x)) e ∙ toZ-ofZ w32 n f
-
 module _ (z : ℤ) (size : ℕ) (small : size < 2 ^ 31) where
   pub signed-below : (r : ℤ) → r ≡ minus size → not (nonNeg z) ≡ true → toZ w32 (ofZ w32 r) ≡ signedAs z size
-  signed-below r e s = signed-back r (minus size) (minus-small size small) e ∙ sym (sign z s)
+  signed-below r e s = back r (minus size) e (minus-small size small .sfits) ∙ sym (sign z s)
     where
       sign : (z : ℤ) → not (nonNeg z) ≡ true → signedAs z size ≡ minus size
       sign (pos n) t = let bad : _≡_ {A = ℕ} 0 1 = cc in absurd (omega arith)
       sign (negsuc n) t = refl
 
   pub signed-above : (r : ℤ) → r ≡ pos size → not (nonNeg z) ≡ false → toZ w32 (ofZ w32 r) ≡ signedAs z size
-  signed-above r e s = signed-back r (pos size) (record { sfits = small }) e ∙ sym (sign z s)
+  signed-above r e s = back r (pos size) e small ∙ sym (sign z s)
     where
       sign : (z : ℤ) → not (nonNeg z) ≡ false → signedAs z size ≡ pos size
       sign (pos n) t = refl

@@ -2,7 +2,7 @@
 use mathlib.Core.Path.{_≡_, refl, sym, ap, _∙_, subst}
 use mathlib.Core.Logic.{_↔_, _⊎_, inl, inr, ⊎-elim}
 use mathlib.Core.Bool.{Bool, true, false, _&&_, cond, false≢true}
-use mathlib.Core.List.{List, [], _∷_, _++_}
+use mathlib.Core.List.{List, [], _∷_, _++_, cons≢nil, nil≢cons}
 use Prim.Native.Nat.{ℕ, _≤_, _^_}
 use native.Mathlib.Omega.{arith}
 use lib.IntN.{natAbs}
@@ -13,7 +13,6 @@ use Rattle.sheet.specs.Sheet.{Point, Triangle, Sheet, Near, Small, InRan
 use Rattle.sheet.specs.Contents.{Contents, nothing, sheet, Says, fields, fieldSheet, near?, small?, inRange?, sameBytes, contentsIn, contents}
 use Rattle.sheet.specs.Laws.{ContentsLaws, LongestText}
 use Rattle.sheet.proofs.Tests.{both-mean, le-means, lt-means, eq-means, every-means}
-use Rattle.sheet.proofs.Fields.{nil-cons}
 use Rattle.sheet.proofs.FieldTexts.{afterOpening, sheet-taken}
 use Rattle.sheet.proofs.Texts.{by-number, one-edition, longest-first, longest-second}
 
@@ -37,8 +36,8 @@ range-means most s =
 
 same-means : (l m : List ℕ) → (sameBytes l m ≡ true) ↔ (l ≡ m)
 same-means [] [] = (λ e. refl, λ e. refl)
-same-means [] (b ∷ m) = (λ e. absurd (false≢true e), λ e. absurd (nil-cons b m e))
-same-means (a ∷ l) [] = (λ e. absurd (false≢true e), λ e. absurd (nil-cons a l (sym e)))
+same-means [] (b ∷ m) = (λ e. absurd (false≢true e), λ e. absurd (nil≢cons e))
+same-means (a ∷ l) [] = (λ e. absurd (false≢true e), λ e. absurd (cons≢nil e))
 same-means (a ∷ l) (b ∷ m) =
     let tests = both-mean (eq-means a b) (same-means l m) in
     (λ e. let h = tests .0 e in cc, λ e. tests .1 (cc, cc))

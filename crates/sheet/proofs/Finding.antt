@@ -13,7 +13,7 @@ use Rattle.sheet.proofs.Contents.{contents-laws}
 
 module _ (input : List ℕ) (number : ℕ) (told : TellsEdition input number) where
   pub none-found : NoSheet (edition number .opening) (edition number .most) input → contents input ≡ Contents.nothing
-  none-found none = contents-laws .nothing input (λ n s says. none s (subst (λ (k : ℕ). Contents.Says input k s) (told .only n (says .known) s (says .is-text)) says .in-range) (subst (λ (k : ℕ). Contents.Says input k s) (told .only n (says .known) s (says .is-text)) says .is-text))
+  none-found none = contents-laws .nothing input (λ n s says. let h = subst (λ (k : ℕ). Says input k s) (told .only n (says .known) s (says .is-text)) says in none s (h .in-range) (h .is-text))
 
   pub sheet-found : (n m : ℕ) (z z′ : List ℤ) (c c′ l l′ : List ℕ) → IsSheet (edition number .opening) (edition number .most) input n m z z′ c c′ l l′ → IsFound input number n m z z′ c c′ l l′
   sheet-found n m z z′ c c′ l l′ is = record {

@@ -1,6 +1,6 @@
 -- A text is that of one sheet of one edition at most, and how long sheets are. Assumes nothing.
 use mathlib.Core.Path.{_≡_, refl, sym, ap, _∙_, subst}
-use mathlib.Core.List.{List, [], _∷_, _++_, append-assoc}
+use mathlib.Core.List.{List, [], _∷_, _++_, append-assoc, head-eq-of-cons-eq}
 use Prim.Native.Nat.{ℕ, zero, suc, _+_, _*_, _/_, _^_, _≤_, _<_}
 use native.Mathlib.Nat.{pow-suc, suc-mul, lt-of-le-of-lt, mul-le-mul-right}
 use native.Mathlib.Omega.{arith}
@@ -12,17 +12,9 @@ use Rattle.sheet.specs.Text.{decimal, integer, lines}
 use Rattle.sheet.specs.Sheet.{Point, Triangle, Sheet, Every, Near, Small, InRange, textAfter, pointLine, triangleLine, countsLine, pointNames, triangleNames}
 use Rattle.sheet.specs.Edition.{Edition, firstEdition, secondEdition, edition, IsEdition}
 use Rattle.sheet.specs.Laws.{OneSheet, OneEdition}
-use Rattle.sheet.specs.Stages.{IsSheet, NoSheet, ended}
+use Rattle.sheet.specs.Stages.{ended}
 use Rattle.sheet.proofs.Decimal.{split, decimal-one, tenth}
-use Rattle.sheet.proofs.Words.{head-same}
 use Rattle.sheet.proofs.Whole.{text-unique}
-
--- the text of a sheet in range is not malformed, and the sheet that is read from it is that one
-pub not-malformed : (opening : List ℕ) (most : ℕ) (s : Sheet) → InRange most s → NoSheet opening most (textAfter opening s) → ⊥
-not-malformed opening most s ok no-sheet = no-sheet s ok refl
-
-pub read-back : (opening : List ℕ) (most : ℕ) (s : Sheet) (n m : ℕ) (coordinates coordinates′ : List ℤ) (corners corners′ labels labels′ : List ℕ) (is : IsSheet opening most (textAfter opening s) n m coordinates coordinates′ corners corners′ labels labels′) → is .sheet ≡ s
-read-back opening most s n m coordinates coordinates′ corners corners′ labels labels′ is = text-unique opening s (is .sheet) (is .is-text)
 
 pub one-sheet : OneSheet
 one-sheet e = text-unique (e .opening)
@@ -58,7 +50,7 @@ pub one-edition : OneEdition
 one-edition n m hn hm s t e =
     let a = starts n hn s in
     let b = starts m hm t in
-    let same : a .0 ≡ b .0 = head-same (a .0) (b .0) (a .1) (b .1) (sym (a .2) ∙ e ∙ b .2) in
+    let same : a .0 ≡ b .0 = head-eq-of-cons-eq (sym (a .2) ∙ e ∙ b .2) in
     ⊎-elim (λ x. ⊎-elim (λ y. (omega arith)) (λ y. absurd (omega arith)) (b .3)) (λ x. ⊎-elim (λ y. absurd (omega arith)) (λ y. (omega arith)) (b .3)) (a .3)
 
 -- ---- a line is its fields

@@ -9,13 +9,13 @@ use Rattle.sheet.specs.Sheet.{Sheet, text, coordinatesOf, cornersOf, labelsOf}
 use Rattle.sheet.specs.Contents.{Says}
 use Rattle.sheet.proofs.Contents.{contents-laws}
 use Rattle.writing.specs.Lists.{Sayable, sayable?, listSheet}
-use Rattle.writing.specs.Written.{written, refused}
+use Rattle.writing.specs.Written.{Writing, written, refused}
 use Rattle.writing.specs.Laws.{WritingLaws}
 use Rattle.writing.proofs.Verdicts.{list-laws}
 
 -- a text comes only where the test passes
-pub only-passed : (t : Bool) (w : List ℕ) (number : ℕ) (bytes : List ℕ) → cond t (written w) (refused number) ≡ written bytes → (t ≡ true) × (w ≡ bytes)
-only-passed true w number bytes e = (refl, cc)
+pub only-passed : (t : Bool) (w : Writing) (number : ℕ) (bytes : List ℕ) → cond t w (refused number) ≡ written bytes → (t ≡ true) × (w ≡ written bytes)
+only-passed true w number bytes e = (refl, e)
 only-passed false w number bytes e = let bad : _≡_ {A = ℕ} 0 1 = cc in absurd (omega arith)
 
 -- a sheet that a text says, by its lists
@@ -26,9 +26,10 @@ pub writing-laws : WritingLaws
 writing-laws = record {
   read-back = λ number coordinates corners labels bytes a b e.
       let s = listSheet coordinates corners labels in
-      let p = only-passed (sayable? number coordinates corners labels) (text (edition number) s) 16 bytes e in
+      let p = only-passed (sayable? number coordinates corners labels) (written (text (edition number) s)) 16 bytes e in
+      let q = p .1 in
       let h = list-laws .sayable number coordinates corners labels a b (p .0) in
-      (s, contents-laws .said bytes number s (record { known = h .known; in-range = h .in-range; is-text = sym (p .1) }), h);
+      (s, contents-laws .said bytes number s (record { known = h .known; in-range = h .in-range; is-text = cc }), h);
   written-back = λ input number s e.
       let h = contents-laws .says input number s e in
       let l = lists-say input number s h in

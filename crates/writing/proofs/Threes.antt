@@ -8,7 +8,7 @@ use lib.ListN.{length, getD, take, length-append}
 use lib.Seq.{take-suc, take-all, take-at}
 use Rattle.sheet.specs.Sheet.{Point, Triangle, Every, Near, coordinatesOf, cornersOf, labelsOf}
 use Rattle.sheet.proofs.Decimal.{every-append}
-use Rattle.sheet.proofs.Stores.{length-coordinates, length-corners, length-labels, labels-append}
+use Rattle.sheet.proofs.Stores.{coordinates-append, length-coordinates, corners-append, length-corners, labels-append, length-labels}
 use Rattle.writing.specs.Lists.{each, listPoint, listTriangle}
 
 pub length-each : {A : Type 0} (f : ℕ → A) (n : ℕ) → length (each f n) ≡ n
@@ -31,20 +31,21 @@ three-more l d i h =
     ∙ append-assoc (take i l ++ (getD l i d ∷ [])) (getD l (i + 1) d ∷ []) (getD l (i + 2) d ∷ [])
     ∙ append-assoc (take i l) (getD l i d ∷ []) (getD l (i + 1) d ∷ getD l (i + 2) d ∷ []))
 
+-- a list in threes w, of as many as are taken
+threes-taken : {A B : Type 0} (w : List A → List B) (f : ℕ → A) (l : List B) (d : B) → w [] ≡ [] → ((x y : List A) → w (x ++ y) ≡ w x ++ w y) → ((n : ℕ) → w (f n ∷ []) ≡ getD l (n * 3) d ∷ getD l (n * 3 + 1) d ∷ getD l (n * 3 + 2) d ∷ []) → (n : ℕ) → n * 3 ≤ length l → w (each f n) ≡ take (n * 3) l
+threes-taken w f l d none append three zero h = none
+threes-taken w f l d none append three (suc n) h =
+    let e : n * 3 + 3 ≡ suc n * 3 = omega arith in
+    append (each f n) (f n ∷ [])
+    ∙ ap (λ (t : List _). t ++ w (f n ∷ [])) (threes-taken w f l d none append three n (omega arith))
+    ∙ ap (λ (t : List _). take (n * 3) l ++ t) (three n)
+    ∙ three-more l d (n * 3) (omega arith)
+    ∙ ap (λ (k : ℕ). take k l) e
+
 -- ---- coordinates
 
-coordinates-append : (l m : List Point) → coordinatesOf (l ++ m) ≡ coordinatesOf l ++ coordinatesOf m
-coordinates-append [] m = refl
-coordinates-append (p ∷ l) m = ap (λ (t : List ℤ). p .x ∷ p .y ∷ p .z ∷ t) (coordinates-append l m)
-
 coordinates-taken : (l : List ℤ) (n : ℕ) → n * 3 ≤ length l → coordinatesOf (each (listPoint l) n) ≡ take (n * 3) l
-coordinates-taken l zero h = refl
-coordinates-taken l (suc n) h =
-    let e : n * 3 + 3 ≡ suc n * 3 = omega arith in
-    coordinates-append (each (listPoint l) n) (listPoint l n ∷ [])
-    ∙ ap (λ (t : List ℤ). t ++ coordinatesOf (listPoint l n ∷ [])) (coordinates-taken l n (omega arith))
-    ∙ three-more l (pos 0) (n * 3) (omega arith)
-    ∙ ap (λ (k : ℕ). take k l) e
+coordinates-taken l n h = threes-taken coordinatesOf (listPoint l) l (pos 0) refl coordinates-append (λ k. refl) n h
 
 pub coordinates-back : (l : List ℤ) (n : ℕ) → length l ≡ n * 3 → l ≡ coordinatesOf (each (listPoint l) n)
 coordinates-back l n h = sym (coordinates-taken l n (omega arith) ∙ take-all (n * 3) l (omega arith))
@@ -79,18 +80,8 @@ list-points l n ps rest e h =
 
 -- ---- corners and labels
 
-corners-append : (l m : List Triangle) → cornersOf (l ++ m) ≡ cornersOf l ++ cornersOf m
-corners-append [] m = refl
-corners-append (t ∷ l) m = ap (λ (u : List ℕ). t .a ∷ t .b ∷ t .c ∷ u) (corners-append l m)
-
 corners-taken : (l labels : List ℕ) (n : ℕ) → n * 3 ≤ length l → cornersOf (each (listTriangle l labels) n) ≡ take (n * 3) l
-corners-taken l labels zero h = refl
-corners-taken l labels (suc n) h =
-    let e : n * 3 + 3 ≡ suc n * 3 = omega arith in
-    corners-append (each (listTriangle l labels) n) (listTriangle l labels n ∷ [])
-    ∙ ap (λ (t : List ℕ). t ++ cornersOf (listTriangle l labels n ∷ [])) (corners-taken l labels n (omega arith))
-    ∙ three-more l 0 (n * 3) (omega arith)
-    ∙ ap (λ (k : ℕ). take k l) e
+corners-taken l labels n h = threes-taken cornersOf (listTriangle l labels) l 0 refl corners-append (λ k. refl) n h
 
 pub corners-back : (l labels : List ℕ) (n : ℕ) → length l ≡ n * 3 → l ≡ cornersOf (each (listTriangle l labels) n)
 corners-back l labels n h = sym (corners-taken l labels n (omega arith) ∙ take-all (n * 3) l (omega arith))

@@ -5,7 +5,7 @@ use Prim.Native.Nat.{_-_, _≤_}
 use native.Mathlib.Omega.{arith}
 use borrow.Author.Needs.{needs}
 use lib.ListN.{length, drop, replicate, length-set}
-use Rattle.sheet.proofs.Stores.{fill-none, fill-step, fill-done}
+use Rattle.sheet.proofs.Stores.{fill-step, fill-done}
 use Rattle.reading.proofs.clear_corners.Statement.{statement}
 use Rattle.reading.proofs.clear_corners.Tie as tie
 
@@ -16,7 +16,7 @@ abbrev μ-loop : tie.MeasureT-loop
 μ-loop corners₀ k₀ corners k = length corners - k
 
 loop-holds : tie.Need-loop-holds Inv-loop μ-loop
-loop-holds c = (omega arith, refl, fill-none _ 0)
+loop-holds c = (omega arith, refl, refl)
 
 mul-corners : tie.Need-mul-corners Inv-loop μ-loop
 mul-corners c = search needs

@@ -7,7 +7,7 @@ use borrow.Author.Needs.{needs}
 use lib.ListN.{length, drop, replicate, length-set}
 use lib.Ieee.{ofBits}
 use Rattle.reading.specs.Given.{noFloat}
-use Rattle.sheet.proofs.Stores.{fill-none, fill-step, fill-done}
+use Rattle.sheet.proofs.Stores.{fill-step, fill-done}
 use Rattle.reading.proofs.clear_points.Statement.{statement}
 use Rattle.reading.proofs.clear_points.Tie as tie
 
@@ -18,7 +18,7 @@ abbrev μ-loop : tie.MeasureT-loop
 μ-loop points₀ k₀ points k = length points - k
 
 loop-holds : tie.Need-loop-holds Inv-loop μ-loop
-loop-holds c = (omega arith, refl, fill-none _ noFloat)
+loop-holds c = (omega arith, refl, refl)
 
 mul-points : tie.Need-mul-points Inv-loop μ-loop
 mul-points c = search needs
