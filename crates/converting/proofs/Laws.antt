@@ -15,7 +15,7 @@ use Rattle.sheet.proofs.Contents.{contents-laws}
 use Rattle.sheet.proofs.Conversion.{converted-sym, conversion-laws}
 use Rattle.sheet.proofs.InUnit.{in-range, same-ends, unit-some, unit-small, most-small}
 use Rattle.sheet.proofs.Tests.{both-mean, le-means, fails}
-use Rattle.reading.specs.Given.{read, noFloat, holds?, readingOf}
+use Rattle.reading.specs.Given.{read, zeroFloat, holds?, readingOf}
 use Rattle.reading.specs.Given as Given
 use Rattle.reading.specs.declared.Answer.the-variants as declared
 use Rattle.writing.specs.Lists.{isEdition?}
@@ -108,7 +108,7 @@ module _ (input converted : List ℕ) (number asked : ℕ) (s : Sheet) (said : c
         let places = sym (same .points) in
         record {
           answers = λ i. declared.Sheet (long i) (length (s .triangles));
-          points = λ i. places i ++ replicate (values - long i * 3) noFloat;
+          points = λ i. places i ++ replicate (values - long i * 3) zeroFloat;
           corner-list = refl;
           label-list = refl;
         }

@@ -6,13 +6,13 @@ use lib.IntN.{natAbs}
 use Rattle.sheet.specs.Sheet.{Point, Sheet, Every}
 use Rattle.sheet.specs.Contents as Contents
 use Rattle.sheet.specs.Contents.{contents}
-use Rattle.reading.specs.Given.{Reading, readingOf, answerOf, pointsAfter, cornersAfter, labelsAfter}
+use Rattle.reading.specs.Given.{Reading, readingOf, sheetAnswer, pointsAfter, cornersAfter, labelsAfter}
 use Rattle.writing.specs.Written.{written, refused}
 use Rattle.converting.specs.Converting.{conversion}
 
 -- two readings that leave the same in lists of those lengths, and answer alike
 pub record SameReading (values corners labels : ℕ) (a b : Reading) : Type 0 where
-  pub answers : answerOf a ≡ answerOf b
+  pub answers : sheetAnswer a ≡ sheetAnswer b
   pub points : pointsAfter values a ≡ pointsAfter values b
   pub corner-list : cornersAfter corners a ≡ cornersAfter corners b
   pub label-list : labelsAfter labels a ≡ labelsAfter labels b

@@ -14,7 +14,7 @@ use Rattle.sheet.specs.Sheet.{Sheet, text}
 use Rattle.sheet.specs.Contents as Contents
 use Rattle.sheet.specs.Contents.{Contents, contents}
 use Rattle.sheet.specs.Conversion.{convertible?, sheetInUnit}
-use Rattle.reading.specs.Given.{readingIn, answerOf, answerNumber, answerCounts}
+use Rattle.reading.specs.Given.{readingIn, sheetAnswer, answerNumber, answerCounts}
 use Rattle.writing.specs.Lists.{isEdition?, sayable?, listSheet}
 use Rattle.writing.specs.Written.{Writing, written, refused, listText, writtenOf, writtenNumber, writtenLength, bytesAfter}
 use Rattle.writing.proofs.Laws.{writing-laws}
@@ -64,7 +64,7 @@ zero-written number coordinates corners labels list list′ count′ c = zero-gi
 zero-converted : (sheet : List ℕ) (asked : ℕ) (list list′ count′ : List ℕ) → ConvertSheetCall sheet asked list list′ count′ 0 → conversion (contents sheet) asked ≡ written (given list′ count′)
 zero-converted sheet asked list list′ count′ c = zero-given (conversion (contents sheet) asked) list list′ count′ (converted-some (contents sheet) asked) c
 
-zero-read : (c : Contents) (p : List Float) (k l : List ℕ) → 0 ≡ answerNumber (answerOf (readingIn c p k l)) → (number : ℕ) × (s : Sheet) × (c ≡ Contents.sheet number s)
+zero-read : (c : Contents) (p : List Float) (k l : List ℕ) → 0 ≡ answerNumber (sheetAnswer (readingIn c p k l)) → (number : ℕ) × (s : Sheet) × (c ≡ Contents.sheet number s)
 zero-read Contents.nothing p k l e = absurd (omega arith)
 zero-read (Contents.sheet number s) p k l e = (number, s, refl)
 

@@ -8,18 +8,18 @@ use lib.Ieee.{Float}
 use Rattle.sheet.specs.Sheet.{Sheet}
 use Rattle.sheet.specs.Contents as Contents
 use Rattle.sheet.specs.Contents.{contents}
-use Rattle.reading.specs.Given.{readingIn, answerOf, answerNumber, answerCounts, pointsAfter, cornersAfter, labelsAfter}
+use Rattle.reading.specs.Given.{readingIn, sheetAnswer, answerNumber, answerCounts, pointsAfter, cornersAfter, labelsAfter}
 use Rattle.writing.specs.Lists.{Sayable}
 use Rattle.writing.specs.Written as Written
 use Rattle.writing.specs.Written.{Writing, listText, fitting, writtenOf, writtenNumber, writtenLength, bytesAfter}
 use Rattle.converting.specs.Converting.{conversion}
 
 pub record ReadSheetCall (sheet : List ℕ) (points : List Float) (corners labels : List ℕ) (points′ : List Float) (corners′ labels′ counts′ : List ℕ) (number : ℕ) : Type 0 where
-  pub answer : number ≡ answerNumber (answerOf (readingIn (contents sheet) points corners labels))
+  pub answer : number ≡ answerNumber (sheetAnswer (readingIn (contents sheet) points corners labels))
   pub point-list : points′ ≡ pointsAfter (length points) (readingIn (contents sheet) points corners labels)
   pub corner-list : corners′ ≡ cornersAfter (length corners) (readingIn (contents sheet) points corners labels)
   pub label-list : labels′ ≡ labelsAfter (length labels) (readingIn (contents sheet) points corners labels)
-  pub counts : counts′ ≡ answerCounts (answerOf (readingIn (contents sheet) points corners labels))
+  pub counts : counts′ ≡ answerCounts (sheetAnswer (readingIn (contents sheet) points corners labels))
 
 -- what comes of writing, on the list that is lent
 pub record WritingCall (w : Writing) (written written′ count′ : List ℕ) (number : ℕ) : Type 0 where

@@ -17,7 +17,7 @@ use Rattle.sheet.specs.Stages.{IsFound}
 use Rattle.sheet.proofs.Contents.{contents-laws}
 use Rattle.sheet.proofs.Stores.{drop-same, length-corners, length-labels}
 use Rattle.sheet.proofs.Tests.{both-mean, le-means, fails}
-use Rattle.reading.specs.Given.{Reading, read, refused, holds?, readingIn, noFloat, Gives}
+use Rattle.reading.specs.Given.{Reading, read, refused, holds?, readingIn, zeroFloat, Gives}
 use Rattle.reading.specs.Stages.{placedFirst, copiedFirst}
 use Rattle.reading.specs.declared.Answer as declared
 use Rattle.reading.specs.declared.Answer.the-variants as answer
@@ -31,10 +31,10 @@ module _ (input : List ℕ) (p p′ : List Float) (c c′ l l′ : List ℕ) whe
   made = readingIn (contents input) p c l
 
   -- a refusal, after which all is cleared
-  refuses : (number : ℕ) → made ≡ refused number → p′ ≡ replicate (length p) noFloat → c′ ≡ replicate (length c) 0 → l′ ≡ replicate (length l) 0 → Gives made p p′ c c′ l l′ (answer.Refused number)
+  refuses : (number : ℕ) → made ≡ refused number → p′ ≡ replicate (length p) zeroFloat → c′ ≡ replicate (length c) 0 → l′ ≡ replicate (length l) 0 → Gives made p p′ c c′ l l′ (answer.Refused number)
   refuses number e a b d = subst (λ (r : Reading). Gives r p p′ c c′ l l′ (answer.Refused number)) (sym e) (record { answered = refl; point-list = a; corner-list = b; label-list = d })
 
-  pub gives-16 : contents input ≡ Contents.nothing → p′ ≡ replicate (length p) noFloat → c′ ≡ replicate (length c) 0 → l′ ≡ replicate (length l) 0 → Gives made p p′ c c′ l l′ (answer.Refused 16)
+  pub gives-16 : contents input ≡ Contents.nothing → p′ ≡ replicate (length p) zeroFloat → c′ ≡ replicate (length c) 0 → l′ ≡ replicate (length l) 0 → Gives made p p′ c c′ l l′ (answer.Refused 16)
   gives-16 e = refuses 16 (ap (λ (x : Contents). readingIn x p c l) e)
 
   module _ (number n m : ℕ) (z z′ : List ℤ) (x x′ y y′ : List ℕ) (f : IsFound input number n m z z′ x x′ y y′) where
@@ -45,7 +45,7 @@ module _ (input : List ℕ) (p p′ : List Float) (c c′ l l′ : List ℕ) whe
     unfolding s
     by-room b e = ap (λ (t : Contents). readingIn t p c l) (f .said) ∙ ap (λ (t : Bool). cond t (read number s) (refused 35)) e
 
-    pub gives-35 : ((n * 3 ≤ length p) × ((m * 3 ≤ length c) × (m ≤ length l)) → ⊥) → p′ ≡ replicate (length p) noFloat → c′ ≡ replicate (length c) 0 → l′ ≡ replicate (length l) 0 → Gives made p p′ c c′ l l′ (answer.Refused 35)
+    pub gives-35 : ((n * 3 ≤ length p) × ((m * 3 ≤ length c) × (m ≤ length l)) → ⊥) → p′ ≡ replicate (length p) zeroFloat → c′ ≡ replicate (length c) 0 → l′ ≡ replicate (length l) 0 → Gives made p p′ c c′ l l′ (answer.Refused 35)
     unfolding s
     gives-35 short =
         refuses 35
@@ -54,7 +54,7 @@ module _ (input : List ℕ) (p p′ : List Float) (c c′ l l′ : List ℕ) whe
 
     -- the lists, once they are cleared and filled
     pub gives-sheet : (unit : ℕ) (p₀ : List Float) (c₀ l₀ : List ℕ) → n * 3 ≤ length p → m * 3 ≤ length c → m ≤ length l → unit ≡ edition number .unit
-        → p₀ ≡ replicate (length p) noFloat → p′ ≡ placedFirst unit z′ (n * 3) p₀
+        → p₀ ≡ replicate (length p) zeroFloat → p′ ≡ placedFirst unit z′ (n * 3) p₀
         → c₀ ≡ replicate (length c) 0 → c′ ≡ copiedFirst x′ (m * 3) c₀
         → l₀ ≡ replicate (length l) 0 → l′ ≡ copiedFirst y′ m l₀
         → Gives made p p′ c c′ l l′ (answer.Sheet n m)
@@ -70,7 +70,7 @@ module _ (input : List ℕ) (p p′ : List Float) (c c′ l l′ : List ℕ) whe
           point-list =
               b ∙ ap (λ (k : ℕ). placedFirst k z′ (n * 3) p₀) u
               ∙ sheet-places U (s .points) n z′ (drop (n * 3) z) p₀ (f .n-points) (f .coordinate-list)
-              ∙ ap (λ (t : List Float). placesOf U (s .points) ++ t) (ap (drop (n * 3)) a ∙ drop-same noFloat (length p) (n * 3) ∙ ap (λ (k : ℕ). replicate (length p - k * 3) noFloat) n-is);
+              ∙ ap (λ (t : List Float). placesOf U (s .points) ++ t) (ap (drop (n * 3)) a ∙ drop-same zeroFloat (length p) (n * 3) ∙ ap (λ (k : ℕ). replicate (length p - k * 3) zeroFloat) n-is);
           corner-list =
               g ∙ ap (λ (t : List ℕ). t ++ drop (m * 3) c₀) (ap (take (m * 3)) (f .corner-list) ∙ take-at (cornersOf (s .triangles)) (drop (m * 3) x) (m * 3) (length-corners (s .triangles) ∙ ap (λ (k : ℕ). k * 3) (f .m-triangles)))
               ∙ ap (λ (t : List ℕ). cornersOf (s .triangles) ++ t) (ap (drop (m * 3)) d ∙ drop-same 0 (length c) (m * 3) ∙ ap (λ (k : ℕ). replicate (length c - k * 3) 0) m-is);
@@ -87,7 +87,7 @@ pub record IsRead (input : List ℕ) (n m : ℕ) (p p′ : List Float) (c c′ l
   pub said : Says input number sheet
   pub n-points : n ≡ length (sheet .points)
   pub m-triangles : m ≡ length (sheet .triangles)
-  pub point-list : p′ ≡ placesOf (edition number .unit) (sheet .points) ++ replicate (length p - length (sheet .points) * 3) noFloat
+  pub point-list : p′ ≡ placesOf (edition number .unit) (sheet .points) ++ replicate (length p - length (sheet .points) * 3) zeroFloat
   pub corner-list : c′ ≡ cornersOf (sheet .triangles) ++ replicate (length c - length (sheet .triangles) * 3) 0
   pub label-list : l′ ≡ labelsOf (sheet .triangles) ++ replicate (length l - length (sheet .triangles)) 0
 

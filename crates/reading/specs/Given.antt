@@ -28,9 +28,9 @@ readingOf Contents.nothing values corners labels = refused 16
 readingOf (Contents.sheet number s) values corners labels = cond (holds? s values corners labels) (read number s) (refused 35)
 
 -- the answer: the counts of points and of triangles, or the number of the refusal
-abbrev pub answerOf : Reading → Answer
-answerOf (read number s) = declared.Sheet (length (s .points)) (length (s .triangles))
-answerOf (refused number) = declared.Refused number
+abbrev pub sheetAnswer : Reading → Answer
+sheetAnswer (read number s) = declared.Sheet (length (s .points)) (length (s .triangles))
+sheetAnswer (refused number) = declared.Refused number
 
 -- as a call gives it: 0 or the number of the refusal, and the counts, 0 0 after a refusal
 abbrev pub answerNumber : Answer → ℕ
@@ -41,14 +41,14 @@ abbrev pub answerCounts : Answer → List ℕ
 answerCounts (declared.Sheet n m) = n ∷ m ∷ []
 answerCounts (declared.Refused number) = 0 ∷ 0 ∷ []
 
-abbrev pub noFloat : Float
-noFloat = fin false 0 (pos 0)
+abbrev pub zeroFloat : Float
+zeroFloat = fin false 0 (pos 0)
 
 -- ---- the lists afterwards
 
 abbrev pub pointsAfter : ℕ → Reading → List Float
-pointsAfter values (read number s) = placesOf (edition number .unit) (s .points) ++ replicate (values - length (s .points) * 3) noFloat
-pointsAfter values (refused number) = replicate values noFloat
+pointsAfter values (read number s) = placesOf (edition number .unit) (s .points) ++ replicate (values - length (s .points) * 3) zeroFloat
+pointsAfter values (refused number) = replicate values zeroFloat
 
 abbrev pub cornersAfter : ℕ → Reading → List ℕ
 cornersAfter corners (read number s) = cornersOf (s .triangles) ++ replicate (corners - length (s .triangles) * 3) 0
@@ -60,7 +60,7 @@ labelsAfter labels (refused number) = replicate labels 0
 
 -- what a call that reads promises
 pub record Gives (r : Reading) (points points′ : List Float) (corners corners′ labels labels′ : List ℕ) (answer : Answer) : Type 0 where
-  pub answered : answer ≡ answerOf r
+  pub answered : answer ≡ sheetAnswer r
   pub point-list : points′ ≡ pointsAfter (length points) r
   pub corner-list : corners′ ≡ cornersAfter (length corners) r
   pub label-list : labels′ ≡ labelsAfter (length labels) r

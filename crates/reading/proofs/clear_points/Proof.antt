@@ -1,4 +1,4 @@
--- `reading::clear_points` meets its contract. The loop's invariant: the first `k` places are noFloat, and the others as they were. Assumes nothing.
+-- `reading::clear_points` meets its contract. The loop's invariant: the first `k` places are zeroFloat, and the others as they were. Assumes nothing.
 use mathlib.Core.Path.{_≡_, refl}
 use mathlib.Core.List.{_++_}
 use Prim.Native.Nat.{_-_, _≤_}
@@ -6,13 +6,13 @@ use native.Mathlib.Omega.{arith}
 use borrow.Author.Needs.{needs}
 use lib.ListN.{length, drop, replicate, length-set}
 use lib.Ieee.{ofBits}
-use Rattle.reading.specs.Given.{noFloat}
+use Rattle.reading.specs.Given.{zeroFloat}
 use Rattle.sheet.proofs.Stores.{fill-step, fill-done}
 use Rattle.reading.proofs.clear_points.Statement.{statement}
 use Rattle.reading.proofs.clear_points.Tie as tie
 
 abbrev Inv-loop : tie.InvT-loop
-Inv-loop points₀ k₀ points k = (k ≤ length points₀) × (length points ≡ length points₀) × (points ≡ replicate k noFloat ++ drop k points₀)
+Inv-loop points₀ k₀ points k = (k ≤ length points₀) × (length points ≡ length points₀) × (points ≡ replicate k zeroFloat ++ drop k points₀)
 
 abbrev μ-loop : tie.MeasureT-loop
 μ-loop points₀ k₀ points k = length points - k
@@ -36,7 +36,7 @@ loop-again : tie.Need-loop-again Inv-loop μ-loop
 unfolding ofBits
 loop-again c =
     let L = c .before .loop in
-    (omega arith, simp length-set (L .inv .1), fill-step (L .k) noFloat (c .before .before .args .points .now) (L .points) (omega arith) (L .inv .2))
+    (omega arith, simp length-set (L .inv .1), fill-step (L .k) zeroFloat (c .before .before .args .points .now) (L .points) (omega arith) (L .inv .2))
 
 same-length : tie.Need-same-length Inv-loop μ-loop
 same-length c = c .before .loop .inv .1
@@ -44,7 +44,7 @@ same-length c = c .before .loop .inv .1
 returns : tie.Need-returns Inv-loop μ-loop
 returns c =
     let L = c .before .loop in
-    fill-done (L .k) noFloat (c .before .before .args .points .now) (L .points) (omega arith) (L .inv .2)
+    fill-done (L .k) zeroFloat (c .before .before .args .points .now) (L .points) (omega arith) (L .inv .2)
 
 pub clear-points-spec : {M : Type 1} → statement M
 clear-points-spec =
