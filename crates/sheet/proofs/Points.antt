@@ -9,7 +9,7 @@ use Rattle.sheet.specs.Text.{integer}
 use Rattle.sheet.specs.Sheet.{Point}
 use Rattle.sheet.specs.Stages.{coordinateIs, pointIs, ended}
 use Rattle.sheet.specs.declared.Past.the-variants as past
-use Rattle.sheet.proofs.Integers.{integer-next}
+use Rattle.sheet.proofs.Integers.{integer-unique}
 use Rattle.sheet.proofs.Lines.{point-fields}
 
 module _ (T : List ℕ) (at most k : ℕ) (l l₁ : List ℤ) where
@@ -18,14 +18,14 @@ module _ (T : List ℕ) (at most k : ℕ) (l l₁ : List ℤ) where
 
   module _ (i : ℕ) (f : coordinateIs T at most 32 (k * 3) l l₁ (past.At i)) (l₂ : List ℤ) where
     after-first : (p : Point) (r : List ℕ) → drop at T ≡ ended (integer (p .x)) 32 ++ (ended (integer (p .y)) 32 ++ (ended (integer (p .z)) 10 ++ r)) → drop i T ≡ ended (integer (p .y)) 32 ++ (ended (integer (p .z)) 10 ++ r)
-    after-first p r q = integer-next T at (f .0) (p .x) 32 i _ (omega arith) (f .2) q .1
+    after-first p r q = integer-unique _ (p .x) 32 _ _ (omega arith) (sym (f .2) ∙ q) .1
 
     pub no-second : coordinateIs T i most 32 (k * 3 + 1) l₁ l₂ past.No → pointIs T at most k l l₂ past.No
     no-second w p h r q = w (p .y) (h .y) _ (after-first p r (q ∙ point-fields p r))
 
     module _ (j : ℕ) (g : coordinateIs T i most 32 (k * 3 + 1) l₁ l₂ (past.At j)) (l₃ : List ℤ) where
       pub no-third : coordinateIs T j most 10 (k * 3 + 2) l₂ l₃ past.No → pointIs T at most k l l₃ past.No
-      no-third w p h r q = w (p .z) (h .z) _ (integer-next T i (g .0) (p .y) 32 j _ (omega arith) (g .2) (after-first p r (q ∙ point-fields p r)) .1)
+      no-third w p h r q = w (p .z) (h .z) _ (integer-unique _ (p .y) 32 _ _ (omega arith) (sym (g .2) ∙ after-first p r (q ∙ point-fields p r)) .1)
 
       pub all-three : (next : ℕ) → coordinateIs T j most 10 (k * 3 + 2) l₂ l₃ (past.At next) → pointIs T at most k l l₃ (past.At next)
       all-three next h =

@@ -14,6 +14,10 @@ sets-append (x ∷ a) b l i =
     let e : suc i + length a ≡ i + suc (length a) = omega arith in
     sets-append a b (set l i x) (suc i) ∙ ap (λ (k : ℕ). sets (sets (set l i x) (suc i) a) k b) e
 
+-- how far it goes
+pub reach : {w : List ℕ} {long : ℕ} {l l′ : List ℕ} {at next : ℕ} → Put w long l l′ at next → next ≤ at + long
+reach p = let e = p .place in let s = p .short in omega arith
+
 -- nothing is written
 pub put-nothing : (l : List ℕ) (at : ℕ) → Put [] 0 l l at at
 put-nothing l at = record { stored = refl; place = omega arith; short = omega arith }

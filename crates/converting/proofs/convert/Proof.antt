@@ -23,13 +23,17 @@ same-length : tie.Need-same-length
 same-length c = search needs
 
 returns : tie.Need-returns
-returns c = leaves-no-edition (c .before .before .before .before .before .before .before .args .asked) (c .before .before .before .before .before .before .before .args .written .now) _ (c .before .before .before .clear .ensures) (contents (c .before .before .before .before .before .before .before .args .text .now)) (λ k. omega (arith, k .0, c .if1 .taken))
+returns c =
+    let S = c .before .before .before .before .before .before .before .args in
+    leaves-no-edition (S .asked) _ _ (c .before .before .before .clear .ensures) (contents (S .text .now)) (λ k. omega (arith, k .0, c .if1 .taken))
 
 same-length-2 : tie.Need-same-length-2
 same-length-2 c = search needs
 
 returns-2 : tie.Need-returns-2
-returns-2 c = leaves-no-edition (c .before .before .before .before .before .before .before .before .args .asked) (c .before .before .before .before .before .before .before .before .args .written .now) _ (c .before .before .before .before .clear .ensures) (contents (c .before .before .before .before .before .before .before .before .args .text .now)) (λ k. omega (arith, k .1, c .if2 .taken))
+returns-2 c =
+    let S = c .before .before .before .before .before .before .before .before .args in
+    leaves-no-edition (S .asked) _ _ (c .before .before .before .before .clear .ensures) (contents (S .text .now)) (λ k. omega (arith, k .1, c .if2 .taken))
 
 slice-aggregate-read-whole : tie.Need-slice-aggregate-read-whole
 slice-aggregate-read-whole c = search needs
@@ -53,7 +57,7 @@ same-length-3 : tie.Need-same-length-3
 same-length-3 c = search needs
 
 returns-3 : tie.Need-returns-3
-returns-3 c = leaves-nothing (c .before .before .before .before .before .before .before .before .before .before .before .before .before .before .before .before .before .args .asked) (c .before .before .before .before .before .before .before .before .before .before .before .before .before .before .before .before .before .args .written .now) _ (c .before .before .before .before .before .before .before .before .before .before .before .before .before .clear .ensures) _ (nothing-said _ _ _ _ _ _ _ _ (c .before .before .before .before .before .read-whole .ensures) (c .enum-told .given .1))
+returns-3 c = leaves-nothing _ _ _ (c .before .before .before .before .before .before .before .before .before .before .before .before .before .clear .ensures) _ (nothing-said _ _ _ _ _ _ _ _ (c .before .before .before .before .before .read-whole .ensures) (c .enum-told .given .1))
 
 mul-turn-all : tie.Need-mul-turn-all
 mul-turn-all c = omega (arith, few c .0)
@@ -92,10 +96,9 @@ same-length-4 c = search needs
 
 returns-4 : tie.Need-returns-4
 returns-4 c =
-    let S = c .before .before .before .before .before .before .before .before .before .before .before .before .before .before .before .before .before .before .before .before .before .before .before .before .before .before .before .before .before .before .before .before .args in
     let f = is-found _ _ _ _ _ _ _ _ (c .before .before .before .before .before .before .before .before .before .before .before .before .before .before .before .before .before .before .before .before .read-whole .ensures) _ _ _ (c .before .before .before .before .before .before .before .before .before .before .before .before .before .before .before .from .given .1) in
-    leaves-conversion _ _ (S .asked) _ _ _ _ _ _ _ _ f _ _ (c .before .before .before .before .before .before .before .before .before .before .before .before .turn-all .ensures) (c .before .before .before .before .before .before .before .before .before .before .before .before .before .before .before .before .before .before .before .before .before .before .before .before .before .if1 .left, c .before .before .before .before .before .before .before .before .before .before .before .before .before .before .before .before .before .before .before .before .before .before .before .before .if2 .left) (S .written .now) _ _
-    (leaves _ _ (S .written .now) _ _ _ (c .before .before .before .before .before .before .before .before .before .before .before .before .before .before .before .before .before .before .before .before .before .before .before .before .before .before .before .before .clear .ensures) (c .before .before .before .before .before .before .text .ensures) _ _ _ (c .before .before .settled .ensures))
+    leaves-conversion _ _ _ _ _ _ _ _ _ _ _ f _ _ (c .before .before .before .before .before .before .before .before .before .before .before .before .turn-all .ensures) (c .before .before .before .before .before .before .before .before .before .before .before .before .before .before .before .before .before .before .before .before .before .before .before .before .before .if1 .left, c .before .before .before .before .before .before .before .before .before .before .before .before .before .before .before .before .before .before .before .before .before .before .before .before .if2 .left) _ _ _
+    (leaves _ _ _ _ _ _ (c .before .before .before .before .before .before .before .before .before .before .before .before .before .before .before .before .before .before .before .before .before .before .before .before .before .before .before .before .clear .ensures) (c .before .before .before .before .before .before .text .ensures) _ _ _ (c .before .before .settled .ensures))
 
 pub convert-spec : {M : Type 1} → statement M
 convert-spec =

@@ -1,6 +1,5 @@
 -- `sheet::read_whole` meets its contract. Assumes nothing.
 use mathlib.Core.Path.{subst}
-use Rattle.sheet.specs.Edition.{edition}
 use Rattle.sheet.specs.Stages.{sheetIs}
 use Rattle.sheet.proofs.Finding.{none-found, sheet-found}
 use borrow.Author.Needs.{needs}
@@ -33,7 +32,7 @@ returns c =
     let S = c .before .before .before .before .before .before .before .before .before .before .before .before .before .before .before .args in
     let number = c .before .before .before .before .before .before .before .before .before .before .before .told .result in
     let I = c .before .before .before .before .before .before .before .in-edition in
-    none-found (S .text .now) number (c .before .before .before .before .before .before .before .before .before .before .before .told .ensures) (subst (sheetIs (edition number .opening) (edition number .most) (S .text .now) (S .coordinates .now) (I .last .1 .1 .0) (S .corners .now) (I .last .1 .1 .1 .0) (S .labels .now) (I .last .1 .1 .1 .1 .0)) (c .enum-told .given .1) (I .ensures))
+    none-found (S .text .now) number (c .before .before .before .before .before .before .before .before .before .before .before .told .ensures) (subst (sheetIs _ _ _ _ _ _ _ _ _) (c .enum-told .given .1) (I .ensures))
 
 same-length-4 : tie.Need-same-length-4
 same-length-4 c = search needs
@@ -49,7 +48,7 @@ returns-2 c =
     let S = c .before .before .before .before .before .before .before .before .before .before .before .before .before .before .before .before .args in
     let number = c .before .before .before .before .before .before .before .before .before .before .before .before .told .result in
     let I = c .before .before .before .before .before .before .before .before .in-edition in
-    sheet-found (S .text .now) number (c .before .before .before .before .before .before .before .before .before .before .before .before .told .ensures) _ _ _ _ _ _ _ _ (subst (sheetIs (edition number .opening) (edition number .most) (S .text .now) (S .coordinates .now) (I .last .1 .1 .0) (S .corners .now) (I .last .1 .1 .1 .0) (S .labels .now) (I .last .1 .1 .1 .1 .0)) (c .before .n .given .1) (I .ensures))
+    sheet-found (S .text .now) number (c .before .before .before .before .before .before .before .before .before .before .before .before .told .ensures) _ _ _ _ _ _ _ _ (subst (sheetIs _ _ _ _ _ _ _ _ _) (c .before .n .given .1) (I .ensures))
 
 pub read-whole-spec : {M : Type 1} → statement M
 read-whole-spec =

@@ -7,7 +7,7 @@ use Rattle.sheet.specs.Text.{lines}
 use Rattle.sheet.specs.Sheet.{triangleLine}
 use Rattle.writing.specs.Lists.{each, listTriangle}
 use Rattle.writing.specs.Stages.{Put}
-use Rattle.writing.proofs.Puts.{put-nothing}
+use Rattle.writing.proofs.Puts.{put-nothing, reach}
 use Rattle.writing.proofs.Parts.{line-more}
 use Rattle.writing.proofs.all_triangles.Statement.{statement}
 use Rattle.writing.proofs.all_triangles.Tie as tie
@@ -24,8 +24,7 @@ loop-holds c = (omega arith, refl, put-nothing _ _)
 
 triangle-requires : tie.Need-triangle-requires Inv-loop μ-loop
 triangle-requires c κs =
-    let p = c .before .before .loop .inv .2 .place in
-    let s = c .before .before .loop .inv .2 .short in
+    let p = reach (c .before .before .loop .inv .2) in
     (omega arith, omega arith, omega arith)
 
 add-k : tie.Need-add-k Inv-loop μ-loop

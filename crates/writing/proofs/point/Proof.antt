@@ -3,6 +3,7 @@ use mathlib.Core.Path.{refl}
 use native.Mathlib.Omega.{arith}
 use Rattle.sheet.proofs.Signs.{back}
 use Rattle.writing.specs.Lists.{listPoint}
+use Rattle.writing.proofs.Puts.{reach}
 use Rattle.writing.proofs.Parts.{point-put, same-number}
 use borrow.Author.Needs.{needs}
 use Rattle.writing.proofs.point.Statement.{statement}
@@ -31,8 +32,7 @@ shared-slice-copy-out-y c = search needs
 
 coordinate-requires-2 : tie.Need-coordinate-requires-2
 coordinate-requires-2 c κs =
-    let p = c .before .before .before .before .coordinate .ensures .place in
-    let s = c .before .before .before .before .coordinate .ensures .short in
+    let p = reach (c .before .before .before .before .coordinate .ensures) in
     omega arith
 
 add-z : tie.Need-add-z
@@ -46,10 +46,8 @@ shared-slice-copy-out-z c = search needs
 
 coordinate-requires-3 : tie.Need-coordinate-requires-3
 coordinate-requires-3 c κs =
-    let p = c .before .before .before .before .before .before .before .before .before .coordinate .ensures .place in
-    let s = c .before .before .before .before .before .before .before .before .before .coordinate .ensures .short in
-    let q = c .before .before .before .before .coordinate2 .ensures .place in
-    let t = c .before .before .before .before .coordinate2 .ensures .short in
+    let p = reach (c .before .before .before .before .before .before .before .before .before .coordinate .ensures) in
+    let q = reach (c .before .before .before .before .coordinate2 .ensures) in
     omega arith
 
 same-length : tie.Need-same-length

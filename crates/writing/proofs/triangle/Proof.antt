@@ -5,7 +5,7 @@ use native.Mathlib.Omega.{arith}
 use Rattle.sheet.specs.Text.{decimal}
 use Rattle.sheet.specs.Stages.{ended}
 use Rattle.writing.specs.Lists.{listTriangle}
-use Rattle.writing.proofs.Puts.{said-as}
+use Rattle.writing.proofs.Puts.{said-as, reach}
 use Rattle.writing.proofs.Parts.{triangle-put}
 use borrow.Author.Needs.{needs}
 use Rattle.writing.proofs.triangle.Statement.{statement}
@@ -34,8 +34,7 @@ shared-slice-read-field-2 c = search needs
 
 field-requires-2 : tie.Need-field-requires-2
 field-requires-2 c κs =
-    let p = c .before .before .before .before .field .ensures .place in
-    let s = c .before .before .before .before .field .ensures .short in
+    let p = reach (c .before .before .before .before .field .ensures) in
     omega arith
 
 add-field-2 : tie.Need-add-field-2
@@ -49,10 +48,8 @@ shared-slice-read-field-3 c = search needs
 
 field-requires-3 : tie.Need-field-requires-3
 field-requires-3 c κs =
-    let p = c .before .before .before .before .before .before .before .before .before .field .ensures .place in
-    let s = c .before .before .before .before .before .before .before .before .before .field .ensures .short in
-    let q = c .before .before .before .before .field2 .ensures .place in
-    let t = c .before .before .before .before .field2 .ensures .short in
+    let p = reach (c .before .before .before .before .before .before .before .before .before .field .ensures) in
+    let q = reach (c .before .before .before .before .field2 .ensures) in
     omega arith
 
 shared-slice-read-wide : tie.Need-shared-slice-read-wide
@@ -63,12 +60,9 @@ wide-requires c κs = search needs
 
 field-requires-4 : tie.Need-field-requires-4
 field-requires-4 c κs =
-    let p = c .before .before .before .before .before .before .before .before .before .before .before .before .before .before .before .field .ensures .place in
-    let s = c .before .before .before .before .before .before .before .before .before .before .before .before .before .before .before .field .ensures .short in
-    let q = c .before .before .before .before .before .before .before .before .before .before .field2 .ensures .place in
-    let t = c .before .before .before .before .before .before .before .before .before .before .field2 .ensures .short in
-    let u = c .before .before .before .before .before .field3 .ensures .place in
-    let v = c .before .before .before .before .before .field3 .ensures .short in
+    let p = reach (c .before .before .before .before .before .before .before .before .before .before .before .before .before .before .before .field .ensures) in
+    let q = reach (c .before .before .before .before .before .before .before .before .before .before .field2 .ensures) in
+    let u = reach (c .before .before .before .before .before .field3 .ensures) in
     omega arith
 
 same-length : tie.Need-same-length

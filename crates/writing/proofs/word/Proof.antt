@@ -4,7 +4,7 @@ use Prim.Native.Nat.{_-_, _≤_}
 use native.Mathlib.Omega.{arith}
 use lib.ListN.{length, take}
 use Rattle.writing.specs.Stages.{Put}
-use Rattle.writing.proofs.Puts.{put-nothing}
+use Rattle.writing.proofs.Puts.{put-nothing, reach}
 use Rattle.writing.proofs.Parts.{byte-more, word-whole}
 use Rattle.writing.proofs.word.Statement.{statement}
 use Rattle.writing.proofs.word.Tie as tie
@@ -24,8 +24,7 @@ shared-slice-read-put c = omega arith
 put-requires : tie.Need-put-requires Inv-loop μ-loop
 put-requires c κs =
     let P = c .before .before .before .loop .inv .2 in
-    let p = P .place in
-    let s = P .short in
+    let p = reach (P) in
     omega arith
 
 add-k : tie.Need-add-k Inv-loop μ-loop
