@@ -1,19 +1,18 @@
 -- The lists after the collapses of a round: what stays of the triangles and their labels, then 0.
-use Prim.Native.Nat.{ℕ, zero, suc, _+_, _*_, _-_, _/_, _%_, _<_, _≤_}
+use Prim.Native.Nat.{ℕ, zero, suc, _+_, _*_, _-_, _/_, _<_, _≤_}
 use native.Mathlib.Omega.{arith}
-use mathlib.Core.Path.{_≡_, refl, sym, ap, ap₂, _∙_, subst}
+use mathlib.Core.Path.{_≡_, sym, ap, _∙_, subst}
 use mathlib.Core.Bool.{Bool, true, false}
-use mathlib.Core.List.{List, [], _∷_, _++_, map}
-use lib.ListN.{length, getD, take, drop, replicate, length-map, length-take}
+use mathlib.Core.List.{List, [], _∷_}
+use lib.ListN.{length, getD, take, length-map, length-take}
 use lib.Ieee.{Float}
 use Rattle.surface.specs.Triangle.{Tri, tri, triangles, corners}
 use Rattle.surface.specs.Edit.{place}
-use Rattle.surface.proofs.Flat.{place-triangles, corners-triangles, length-corners}
+use Rattle.surface.proofs.Flat.{place-triangles, corners-triangles}
 use Rattle.halfedges.specs.Place.{at}
 use Rattle.chains.proofs.Flat.{thirds-length}
 use Rattle.history.specs.History.{Pair}
-use Rattle.history.specs.Lists.{thenZero}
-use Rattle.rounds.specs.Pass.{State, retain, result}
+use Rattle.rounds.specs.Pass.{retain}
 use Rattle.surface.specs.Renumber.{renumber, renumbered}
 use Rattle.rounds.specs.Choices.{collapseStart}
 use Rattle.rounds.proofs.Elements.{map-place}
@@ -23,19 +22,15 @@ use Rattle.oracle.specs.Slivers.{pass}
 use Rattle.oracle.specs.Round.{dropped}
 use Rattle.scores.specs.Measures.{pairOf}
 use Rattle.flips.specs.Whole.{meshOf, sheetOf}
-use Rattle.renumber.specs.Blank.{blank}
+use Rattle.blank.specs.Blank.{blank}
+use Rattle.blank.proofs.Blanking.{blank-is}
 use Rattle.renumber.specs.Dropped as Drop
 use Rattle.renumber.specs.Dropped.{becomes, goneAt, Droppable}
 use Rattle.renumber.proofs.Mesh.{gone-is, dropped-result}
-use Rattle.slivers.specs.Stand.{Stands}
-use Rattle.collapsing.specs.Areas.{touchedFrom, collapseWords}
+use Rattle.collapsing.specs.Areas.{touchedFrom}
 use Rattle.collapsing.specs.Noting.{Collapsible, Collapsed}
 use Rattle.improving.specs.Rounded.{Improvable}
 use Rattle.improving.specs.Stages.{Dropped}
-
--- the front of a list that is blanked behind it
-pub blank-is : {A : Type 0} (z : A) (lent l front : List A) (n : ℕ) → length l ≡ length lent → take n l ≡ front → length front ≡ n → blank z l n ≡ front ++ replicate (length lent - length front) z
-blank-is z lent l front n e f g = ap₂ (λ (x : List _) (k : ℕ). x ++ replicate k z) f (ap₂ (λ (x y : ℕ). x - y) e (sym g))
 
 -- what is left of a list is in the list
 pub retain-each : {A : Type 0} (P : A → Type 0) (d : A) (gs : List Bool) (l : List A) → ((i : ℕ) → i < length l → P (getD l i d)) → (i : ℕ) → i < length (retain gs l) → P (getD (retain gs l) i d)

@@ -1,26 +1,25 @@
 -- The corners numbered by first use, with their points, then 0.
-use Prim.Native.Nat.{ℕ, zero, suc, _+_, _*_, _-_, _/_, _%_, _<_, _≤_}
+use Prim.Native.Nat.{ℕ, zero, suc, _+_, _*_, _-_, _/_, _<_}
 use native.Mathlib.Omega.{arith}
 use mathlib.Core.Path.{_≡_, refl, sym, ap, _∙_, subst}
 use mathlib.Core.List.{List, [], _∷_, _++_, map, List·Memᴰ, List·Memᴰ·head, List·Memᴰ·tail}
-use lib.ListN.{length, getD, take, drop, replicate, length-map, length-take, List·getD-map}
+use lib.ListN.{length, take, drop, replicate, length-map, length-take}
 use lib.Ieee.{Float}
 use Rattle.field.specs.Number.{plusZero}
 use Rattle.surface.specs.Triangle.{triangles, corners}
 use Rattle.surface.proofs.Flat.{corners-triangles}
 use Rattle.halfedges.specs.Place.{at}
 use Rattle.closing.proofs.Whole.{zero-at}
-use Rattle.surface.specs.Renumber.{renumbered}
-use Rattle.rounds.specs.Renumber.{index, met, walk, firstUse, number}
+use Rattle.rounds.specs.Renumber.{index, met, walk, firstUse}
 use Rattle.rounds.proofs.FirstUse.{walk-is, met-mem}
 use Rattle.rounds.proofs.Elements.{first-triangles}
 use Rattle.oracle.specs.Points.{gathered}
-use Rattle.renumber.specs.Blank.{blank}
+use Rattle.blank.specs.Blank.{blank}
+use Rattle.blank.proofs.Blanking.{blank-is}
 use Rattle.renumber.specs.Saved.{Saved}
 use Rattle.renumber.specs.Numbered as Renumber
 use Rattle.renumber.proofs.Mesh.{numberable}
 use Rattle.improving.specs.Stages.{Numberable, Numbered}
-use Rattle.improving.proofs.Dropping.{blank-is}
 
 mem-at : (l : List ℕ) (k : ℕ) → k < length l → List·Memᴰ (at l k) l
 mem-at [] k h = absurd (omega arith)

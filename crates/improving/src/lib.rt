@@ -1,12 +1,12 @@
 // Improving: rounds, each of a collapse pass, a renumbering by first use and a flip pass; and the call, which asks its questions first.
+use blank::blank_bytes;
+use blank::blank_numbers;
+use blank::blank_words;
 use closing::clear;
 use collapsing::note_collapses;
 use flips::flip_sides;
 use questions::Asked;
 use questions::Refusal;
-use renumber::blank_corners;
-use renumber::blank_labels;
-use renumber::blank_points;
 use renumber::drop_gone;
 use renumber::number_corners;
 use renumber::save_points;
@@ -44,8 +44,8 @@ fn collapse_slivers(
     let touched = weak + places / 3 + places / 2 * 2 + places / 2 + places / 2;
     note_collapses(points, corners, labels, coefficients, powers, heads, work);
     let n = drop_gone(corners, labels, touched + heads, touched + heads * 2, work);
-    blank_corners(corners, n * 3);
-    blank_labels(labels, n);
+    blank_words(corners, n * 3);
+    blank_bytes(labels, n);
     n
 }
 
@@ -58,7 +58,7 @@ fn number_by_use(points: &mut [f64], corners: &mut [u32], work: &mut [u32]) -> u
     clear(work, heads);
     save_points(points, heads, work);
     let p = number_corners(points, corners, 0, heads, work);
-    blank_points(points, p * 3);
+    blank_numbers(points, p * 3);
     p
 }
 

@@ -4,11 +4,8 @@ use scores::get_float;
 use scores::put_float;
 ghost use mathlib.Core.Path.{_≡_};
 ghost use Prim.Native.Nat.{_+_, _*_, _<_, _≤_};
-ghost use lib.ListN.{length, getD, set};
-ghost use Rattle.halfedges.specs.Place.{at};
-ghost use Rattle.field.specs.Number.{plusZero};
+ghost use lib.ListN.{length};
 ghost use Rattle.renumber.specs.Dropped.{Movable, Moved, Droppable, Dropped};
-ghost use Rattle.renumber.specs.Blank.{blank};
 ghost use Rattle.renumber.specs.Saved.{Saved};
 ghost use Rattle.renumber.specs.Numbered.{Numberable, Numbered, loaded, Loadable, Meetable, Met};
 
@@ -53,39 +50,6 @@ pub fn drop_gone(
         i += 1;
     }
     q
-}
-
-pub fn blank_corners(corners: &mut [u32], from: usize)
-    requires { ⌜ from ≤ length (now corners) ⌝ }
-    ensures { λ _. ⌜ now (corners .exit) ≡ blank 0 (now (corners .entry)) from ⌝ }
-{
-    let mut k = from;
-    while k < corners.len() {
-        corners[k] = 0;
-        k += 1;
-    }
-}
-
-pub fn blank_labels(labels: &mut [u8], from: usize)
-    requires { ⌜ from ≤ length (now labels) ⌝ }
-    ensures { λ _. ⌜ now (labels .exit) ≡ blank 0 (now (labels .entry)) from ⌝ }
-{
-    let mut k = from;
-    while k < labels.len() {
-        labels[k] = 0;
-        k += 1;
-    }
-}
-
-pub fn blank_points(points: &mut [f64], from: usize)
-    requires { ⌜ from ≤ length (now points) ⌝ }
-    ensures { λ _. ⌜ now (points .exit) ≡ blank plusZero (now (points .entry)) from ⌝ }
-{
-    let mut k = from;
-    while k < points.len() {
-        points[k] = 0.0;
-        k += 1;
-    }
 }
 
 // Keeps the coordinates in the words from `saved` on, two for each.

@@ -68,8 +68,8 @@ drop-gone-requires c κs =
     let a = c .before .before .before .before .before .before .before .before .before .before .before .before .before .before .before in
     droppable (a .args .points .now) (a .args .coefficients .now) (a .args .powers .now) (a .args .corners .now) (a .args .labels .now) (a .args .work .now) (a .pre) _ (q .note-collapses .kept .1 .1 .1 .1 .1 .1 .0) (q .note-collapses .ensures)
 
-mul-blank-corners : tie.Need-mul-blank-corners
-mul-blank-corners c =
+mul-blank-words : tie.Need-mul-blank-words
+mul-blank-words c =
     let d = c .before .before .before .before .before in
     let q = c .before .before .before .before .before .before .before .before .before .before .before in
     let a = c .before .before .before .before .before .before .before .before .before .before .before .before .before .before .before .before .before .before .before .before .before in
@@ -78,15 +78,15 @@ mul-blank-corners c =
     let m = a .pre .lists .few in
     omega arith
 
-blank-corners-requires : tie.Need-blank-corners-requires
-blank-corners-requires c κs =
+blank-words-requires : tie.Need-blank-words-requires
+blank-words-requires c κs =
     let d = c .before .before .before .before .before in
     let q = c .before .before .before .before .before .before .before .before .before .before .before in
     let a = c .before .before .before .before .before .before .before .before .before .before .before .before .before .before .before .before .before .before .before .before .before in
     drop-room (a .args .points .now) (a .args .coefficients .now) (a .args .powers .now) (a .args .corners .now) (a .args .labels .now) (a .args .work .now) (a .pre) _ (q .note-collapses .kept .1 .1 .1 .1 .1 .1 .0) (q .note-collapses .ensures) _ _ _ (d .drop-gone .kept .0) (d .drop-gone .kept .1 .0) (d .drop-gone .ensures)
 
-blank-labels-requires : tie.Need-blank-labels-requires
-blank-labels-requires c κs =
+blank-bytes-requires : tie.Need-blank-bytes-requires
+blank-bytes-requires c κs =
     let d = c .before .before .before .before .before .before .before .before .before in
     let q = c .before .before .before .before .before .before .before .before .before .before .before .before .before .before .before in
     let a = c .before .before .before .before .before .before .before .before .before .before .before .before .before .before .before .before .before .before .before .before .before .before .before .before .before in
@@ -108,7 +108,7 @@ returns c =
     let d = c .before .before .before .before .before .before .before .before .before .before .before .before in
     let q = c .before .before .before .before .before .before .before .before .before .before .before .before .before .before .before .before .before .before in
     let a = c .before .before .before .before .before .before .before .before .before .before .before .before .before .before .before .before .before .before .before .before .before .before .before .before .before .before .before .before in
-    dropped-is (a .args .points .now) (a .args .coefficients .now) (a .args .powers .now) (a .args .corners .now) (a .args .labels .now) (a .args .work .now) (a .pre) _ (q .note-collapses .kept .1 .1 .1 .1 .1 .1 .0) (q .note-collapses .ensures) _ _ _ (d .drop-gone .kept .0) (d .drop-gone .kept .1 .0) (d .drop-gone .ensures) _ _ ((c .before .before .before .before .before .before) .blank-corners .ensures) ((c .before .before) .blank-labels .ensures)
+    dropped-is (a .args .points .now) (a .args .coefficients .now) (a .args .powers .now) (a .args .corners .now) (a .args .labels .now) (a .args .work .now) (a .pre) _ (q .note-collapses .kept .1 .1 .1 .1 .1 .1 .0) (q .note-collapses .ensures) _ _ _ (d .drop-gone .kept .0) (d .drop-gone .kept .1 .0) (d .drop-gone .ensures) _ _ ((c .before .before .before .before .before .before) .blank-words .ensures) ((c .before .before) .blank-bytes .ensures)
 
 pub collapse-slivers-spec : {M : Type 1} → statement M
 collapse-slivers-spec =
@@ -134,9 +134,9 @@ collapse-slivers-spec =
     mul-drop-gone
     add-drop-gone-2
     drop-gone-requires
-    mul-blank-corners
-    blank-corners-requires
-    blank-labels-requires
+    mul-blank-words
+    blank-words-requires
+    blank-bytes-requires
     same-length
     same-length-2
     same-length-3

@@ -17,11 +17,11 @@ number-corners-requires c κs =
     let a = c .before .before .before .before .before .before .before .before .before .before .before .before .before .before .before in
     can-number (a .args .points .now) (a .args .corners .now) (a .args .work .now) (a .pre) _ (z .clear .ensures) _ (s .save-points .ensures)
 
-mul-blank-points : tie.Need-mul-blank-points
-mul-blank-points c = search needs
+mul-blank-numbers : tie.Need-mul-blank-numbers
+mul-blank-numbers c = search needs
 
-blank-points-requires : tie.Need-blank-points-requires
-blank-points-requires c κs = search needs
+blank-numbers-requires : tie.Need-blank-numbers-requires
+blank-numbers-requires c κs = search needs
 
 same-length : tie.Need-same-length
 same-length c = search needs
@@ -38,7 +38,7 @@ returns c =
     let s = c .before .before .before .before .before .before .before .before .before .before .before .before .before .before .before .before in
     let z = c .before .before .before .before .before .before .before .before .before .before .before .before .before .before .before .before .before .before .before .before .before in
     let a = c .before .before .before .before .before .before .before .before .before .before .before .before .before .before .before .before .before .before .before .before .before .before .before .before .before .before in
-    numbered-is (a .args .points .now) (a .args .corners .now) (a .args .work .now) (a .pre) _ (z .clear .ensures) _ (s .save-points .ensures) _ _ _ _ _ (n .number-corners .kept .0) (n .number-corners .ensures) ((c .before .before) .blank-points .ensures)
+    numbered-is (a .args .points .now) (a .args .corners .now) (a .args .work .now) (a .pre) _ (z .clear .ensures) _ (s .save-points .ensures) _ _ _ _ _ (n .number-corners .kept .0) (n .number-corners .ensures) ((c .before .before) .blank-numbers .ensures)
 
 pub number-by-use-spec : {M : Type 1} → statement M
 number-by-use-spec =
@@ -47,8 +47,8 @@ number-by-use-spec =
     clear-requires
     save-points-requires
     number-corners-requires
-    mul-blank-points
-    blank-points-requires
+    mul-blank-numbers
+    blank-numbers-requires
     same-length
     same-length-2
     same-length-3

@@ -1,22 +1,25 @@
--- `renumber::blank_labels` meets its contract. Assumes nothing.
+-- `blank::blank_words` meets its contract. Assumes nothing.
 use Prim.Native.Nat.{_-_}
 use native.Mathlib.Omega.{arith}
 use lib.ListN.{length}
-use Rattle.renumber.proofs.Blanking.{Blanking, blank-starts, blank-turn, blank-ends}
-use Rattle.renumber.proofs.blank_labels.Statement.{statement}
-use Rattle.renumber.proofs.blank_labels.Tie as tie
+use Rattle.blank.proofs.Blanking.{Blanking, blank-starts, blank-turn, blank-ends}
+use Rattle.blank.proofs.blank_words.Statement.{statement}
+use Rattle.blank.proofs.blank_words.Tie as tie
 
 abbrev Inv-loop : tie.InvT-loop
-Inv-loop labels₀ from k₀ labels k = Blanking 0 labels₀ from labels k
+Inv-loop list₀ from k₀ list k = Blanking 0 list₀ from list k
 
 abbrev μ-loop : tie.MeasureT-loop
-μ-loop labels₀ from k₀ labels k = length labels₀ - k
+μ-loop list₀ from k₀ list k = length list₀ - k
 
 loop-holds : tie.Need-loop-holds Inv-loop μ-loop
 loop-holds c = blank-starts 0 _ _ (c .pre)
 
-slice-write-labels : tie.Need-slice-write-labels Inv-loop μ-loop
-slice-write-labels c = omega arith
+mul-list : tie.Need-mul-list Inv-loop μ-loop
+mul-list c = omega arith
+
+slice-write-list : tie.Need-slice-write-list Inv-loop μ-loop
+slice-write-list c = omega arith
 
 add-k : tie.Need-add-k Inv-loop μ-loop
 add-k c = omega arith
@@ -33,14 +36,15 @@ same-length c = c .before .loop .inv .size
 returns : tie.Need-returns Inv-loop μ-loop
 returns c = blank-ends 0 _ _ _ _ (c .before .loop .inv) (c .loop-test .left)
 
-pub blank-labels-spec : {M : Type 1} → statement M
-blank-labels-spec =
+pub blank-words-spec : {M : Type 1} → statement M
+blank-words-spec =
     tie.close
     (tie.spec
     Inv-loop
     μ-loop
     loop-holds
-    slice-write-labels
+    mul-list
+    slice-write-list
     add-k
     loop-less
     loop-again

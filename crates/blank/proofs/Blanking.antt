@@ -1,12 +1,12 @@
 -- The end of a list is freed from n on, one place a turn.
 use Prim.Native.Nat.{ℕ, _+_, _-_, _<_, _≤_}
-use mathlib.Core.Path.{_≡_, refl, sym, _∙_, ap}
+use mathlib.Core.Path.{_≡_, refl, sym, _∙_, ap, ap₂}
 use mathlib.Core.List.{List, _++_}
 use native.Mathlib.Omega.{arith}
 use native.Mathlib.Decide.{ℕ-discrete}
 use lib.ListN.{length, getD, take, drop, set, replicate, length-set, length-drop, length-replicate, getD-replicate, take-append-drop}
 use lib.Seq.{getD-set-same, getD-set-other, take-set-le, getD-drop, ext-getD}
-use Rattle.renumber.specs.Blank.{blank}
+use Rattle.blank.specs.Blank.{blank, thenBlank}
 
 pub record Blanking {A : Type 0} (z : A) (l : List A) (n : ℕ) (cur : List A) (k : ℕ) : Type 0 where
   pub low : n ≤ k
@@ -43,3 +43,7 @@ module _ {A : Type 0} (z : A) (l : List A) (n : ℕ) (cur : List A) (k : ℕ) (I
           let s = length-replicate (length l - n) z in
           let e = length-drop n cur in
           getD-drop n cur i z ∙ I .freed (n + i) (omega arith) (omega (arith, I .low)) ∙ sym (getD-replicate (length l - n) i z z (omega (arith, long))))
+
+-- the front of a list that is blanked behind it
+pub blank-is : {A : Type 0} (z : A) (lent l front : List A) (n : ℕ) → length l ≡ length lent → take n l ≡ front → length front ≡ n → blank z l n ≡ thenBlank z lent front
+blank-is z lent l front n e f g = ap₂ (λ (x : List _) (k : ℕ). x ++ replicate k z) f (ap₂ (λ (x y : ℕ). x - y) e (sym g))

@@ -1,0 +1,2 @@
+-- A turn of each loop, over plain lists.
+pub mod Blanking
