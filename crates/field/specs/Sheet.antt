@@ -76,7 +76,16 @@ slopeZ (suc t) qs ns p =
     onTop (powerZ ns t) (slopeZ t qs ns p)
     (monomial (scaled (coefficient qs t) (powerZ ns t)) (powerX ns t) (powerY ns t) (powerZ ns t - 1) p)
 
+-- ((q·x^i)·y^j)·z^k, for every term
+unfoldable pub total : ℕ → List Float → List ℕ → Point → Float
+unfolding power
+total zero qs ns p = plusZero
+total (suc t) qs ns p = plus (total t qs ns p) (monomial (coefficient qs t) (powerX ns t) (powerY ns t) (powerZ ns t) p)
+
 -- ---- the sheet at a point
+
+abbrev pub value : List Float → List ℕ → Point → Float
+value qs ns p = total (terms qs ns) qs ns p
 
 abbrev pub gradient : List Float → List ℕ → Point → Point
 gradient qs ns p = record {

@@ -67,6 +67,24 @@ fn terms(coefficients: &[f64], powers: &[u32]) -> usize
     if a <= b { a } else { b }
 }
 
+// The field's value at p.
+pub fn value(coefficients: &[f64], powers: &[u32], p: Point) -> f64
+    ensures { λ r. ⌜ r ≡ Sheet.value (now (coefficients .entry)) (now (powers .entry)) p ⌝ }
+{
+    let n = terms(coefficients, powers);
+    let mut sum = 0.0;
+    let mut t: usize = 0;
+    while t < n {
+        let q = coefficients[t];
+        let i = powers[t * 3];
+        let j = powers[t * 3 + 1];
+        let k = powers[t * 3 + 2];
+        sum = sum + monomial(q, i, j, k, p);
+        t += 1;
+    }
+    sum
+}
+
 // The field's slopes at p.
 fn gradient(coefficients: &[f64], powers: &[u32], p: Point) -> Point
     ensures { λ r. ⌜ r ≡ Sheet.gradient (now (coefficients .entry)) (now (powers .entry)) p ⌝ }
@@ -176,8 +194,8 @@ pub fn shape(coefficients: &[f64], powers: &[u32], a: Point, b: Point, c: Point,
     )
 }
 
-// Whether every coefficient is finite.
-fn all_finite(coefficients: &[f64]) -> bool
+// Whether every number of a list is finite.
+pub fn all_finite(coefficients: &[f64]) -> bool
     ensures { λ r. ⌜ r ≡ Valid.every isFinite (now (coefficients .entry)) ⌝ }
 {
     let mut t: usize = 0;
