@@ -1,0 +1,9 @@
+-- `Listed`, the law on the list of crossed edges; `Crossing`, its test; `Places`, `Stores`, `Choices`, `Magnitude`, `Noting`, turns of the loops and what tests pick; `Call`, the call put together.
+pub mod Crossing
+pub mod Listed
+pub mod Places
+pub mod Stores
+pub mod Noting
+pub mod Magnitude
+pub mod Choices
+pub mod Call

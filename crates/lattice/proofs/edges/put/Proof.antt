@@ -1,0 +1,27 @@
+-- `lattice::edges::put` meets its contract. A store past the end changes nothing. Assumes nothing.
+use mathlib.Core.Path.{sym}
+use lib.Seq.{set-out}
+use borrow.Author.Needs.{needs}
+use Rattle.lattice.proofs.edges.put.Statement.{statement}
+use Rattle.lattice.proofs.edges.put.Tie as tie
+
+cast-list : tie.Need-cast-list
+cast-list c = search needs
+
+mul-list : tie.Need-mul-list
+mul-list c = search needs
+
+slice-write-list : tie.Need-slice-write-list
+slice-write-list c = search needs
+
+same-length : tie.Need-same-length
+same-length c = search needs
+
+returns : tie.Need-returns
+returns c = search needs
+
+returns-2 : tie.Need-returns-2
+returns-2 c = sym (set-out (c .before .args .list .now) (c .before .args .i) (c .before .args .x) (c .if1 .left))
+
+pub put-spec : {M : Type 1} → statement M
+put-spec = tie.close (tie.spec cast-list mul-list slice-write-list same-length returns returns-2)

@@ -1,0 +1,45 @@
+-- What is shown of the list of crossed edges (document 02, F-2): it holds every crossed edge exactly once and no other, and it rises by node, step and label. Definitions only; `edges-listed` of `proofs/Listed` proves it.
+use Prim.Native.Nat.{ℕ, _+_, _<_}
+use mathlib.Core.Path.{_≡_}
+use mathlib.Core.Logic.{_⊎_}
+use mathlib.Core.Bool.{Bool, true, _&&_, cond}
+use mathlib.Core.List.{List, [], _∷_}
+use lib.Dec.{eqb}
+use lib.ListN.{length, getD}
+use lib.Ieee as Ieee
+use lib.Ieee.{Float}
+use Rattle.float.specs.Order.{isFinite}
+use Rattle.lattice.specs.Node.{cube, alongX, alongY, alongZ}
+use Rattle.lattice.specs.Edges.{Edge, stepX, stepY, stepZ, stepEnd, levelOf, valueAt}
+
+-- an edge that stays in the lattice, whose label's level is finite, above the value at one end and not above that at the other
+pub record CrossedEdge (n : ℕ) (lower upper : Float) (values : List Float) (e : Edge) : Type 0 where
+  pub node : e .node < cube n
+  pub step : e .step < 7
+  pub label : e .label < 2
+  pub x : alongX n (e .node) + stepX (e .step) < n
+  pub y : alongY n (e .node) + stepY (e .step) < n
+  pub z : alongZ n (e .node) + stepZ (e .step) < n
+  pub finite : isFinite (levelOf lower upper (e .label)) ≡ true
+  pub apart : Ieee.lt (valueAt values (e .node)) (levelOf lower upper (e .label)) ≡ Ieee.lt (valueAt values (stepEnd n (e .node) (e .step))) (levelOf lower upper (e .label)) → ⊥
+
+-- how often an edge stands in a list
+abbrev pub sameEdge? : Edge → Edge → Bool
+sameEdge? e f = eqb (e .node) (f .node) && (eqb (e .step) (f .step) && eqb (e .label) (f .label))
+
+unfoldable pub timesListed : Edge → List Edge → ℕ
+timesListed e [] = 0
+timesListed e (f ∷ fs) = cond (sameEdge? e f) 1 0 + timesListed e fs
+
+-- e comes before f: by node, then by step, then by label
+abbrev pub EdgeBefore : Edge → Edge → Type 0
+EdgeBefore e f = (e .node < f .node) ⊎ ((e .node ≡ f .node) × ((e .step < f .step) ⊎ ((e .step ≡ f .step) × (e .label < f .label))))
+
+-- any edge, for places past the end, which are never read
+abbrev pub noEdge : Edge
+noEdge = record { node = 0; step = 0; label = 0 }
+
+pub record ListsCrossed (n : ℕ) (lower upper : Float) (values : List Float) (es : List Edge) : Type 0 where
+  pub once : (e : Edge) → CrossedEdge n lower upper values e → timesListed e es ≡ 1
+  pub no-other : (e : Edge) → (CrossedEdge n lower upper values e → ⊥) → timesListed e es ≡ 0
+  pub rising : (i j : ℕ) → i < j → j < length es → EdgeBefore (getD es i noEdge) (getD es j noEdge)

@@ -1,0 +1,87 @@
+-- What the functions of `lattice` are handed and what they leave: places of nodes, the fronts of the lists, edges noted one after the other. Definitions only.
+use Prim.Native.Nat.{ℕ, _+_, _*_, _≤_, _<_}
+use mathlib.Core.Path.{_≡_}
+use mathlib.Core.Bool.{cond}
+use mathlib.Core.List.{List}
+use lib.Dec.{ltb}
+use lib.ListN.{length, take}
+use lib.Seq.{sets}
+use lib.Ieee.{Float}
+use Rattle.lattice.specs.Node.{cube, alongX, alongY, alongZ, grid}
+use Rattle.lattice.specs.Edges.{Edge, staysInside, stepEnd, edgeWords}
+use Rattle.lattice.specs.Sample.{nodes, rawValues, latticeValues, latticeEdges, whenSampled}
+use Rattle.lattice.specs.declared.Lattice.{Lattice}
+use Rattle.lattice.specs.declared.Lattice.the-variants.{Sampled, Refused}
+use Rattle.lattice.specs.declared.nodes.Place.{Place}
+
+-- ---- places
+
+abbrev pub placeOf : ℕ → ℕ → Place
+placeOf n a = record { x = alongX n a; y = alongY n a; z = alongZ n a }
+
+-- the place after p, with n nodes to a side
+abbrev pub following : ℕ → Place → Place
+following n p =
+    cond (ltb (p .x + 1) n) (record { x = p .x + 1; y = p .y; z = p .z })
+    (cond (ltb (p .y + 1) n) (record { x = 0; y = p .y + 1; z = p .z }) (record { x = 0; y = 0; z = p .z + 1 }))
+
+-- a place of the lattice, of 1 to 129 nodes to a side
+pub record Placeable (n : ℕ) (p : Place) : Type 0 where
+  pub few : n ≤ 129
+  pub x : p .x < n
+  pub y : p .y < n
+  pub z : p .z < n
+
+-- node a stands at p
+pub record Standing (n a : ℕ) (p : Place) : Type 0 where
+  pub some : 1 ≤ n
+  pub few : n ≤ 129
+  pub inside : a < cube n
+  pub place : p ≡ placeOf n a
+
+-- ---- nodes and values
+
+-- a grid with room for all nodes, and a value list of just their number
+pub record Fillable (cells : ℕ) (grid₀ values₀ : List Float) : Type 0 where
+  pub few : cells ≤ 128
+  pub gridPlaces : nodes cells * 3 ≤ length grid₀
+  pub valuePlaces : length values₀ ≡ nodes cells
+
+pub record NodesFilled (qs : List Float) (ns : List ℕ) (bounds : List Float) (cells : ℕ) (grid₀ grid₁ values₀ values₁ : List Float) : Type 0 where
+  pub gridFront : grid₁ ≡ sets grid₀ 0 (grid bounds cells (nodes cells))
+  pub values : values₁ ≡ rawValues qs ns bounds cells
+
+-- ---- edges
+
+-- where the step d from node a ends, a itself where it leaves the lattice
+abbrev pub endOrStart : ℕ → ℕ → ℕ → ℕ
+endOrStart n a d = cond (staysInside n a d) (stepEnd n a d) a
+
+-- the edges `new` stand behind the `count` that were there; what has no place is only counted
+pub record EdgesNoted (new : List Edge) (count : ℕ) (list : List ℕ) (count′ : ℕ) (list′ : List ℕ) : Type 0 where
+  pub number : count′ ≡ count + length new
+  pub stored : list′ ≡ sets list (count * 3) (edgeWords new)
+
+-- ---- the lists
+
+-- how many nodes and edges an answer has
+abbrev pub nodesIn : Lattice → ℕ
+nodesIn (Sampled nodes edges) = nodes
+nodesIn (Refused number) = 0
+
+abbrev pub edgesIn : Lattice → ℕ
+edgesIn (Sampled nodes edges) = edges
+edgesIn (Refused number) = 0
+
+-- the answer is `lattice`, and the fronts of the lists have what it counts
+pub record Filled (lattice : Lattice) (qs : List Float) (ns : List ℕ) (levels bounds : List Float) (cells : ℕ) (grid₀ values₀ : List Float) (edges₀ : List ℕ) (grid₁ values₁ : List Float) (edges₁ : List ℕ) (r : Lattice) : Type 0 where
+  pub answer : r ≡ lattice
+  pub gridLength : length grid₁ ≡ length grid₀
+  pub valueLength : length values₁ ≡ length values₀
+  pub edgeLength : length edges₁ ≡ length edges₀
+  pub gridPlaces : nodesIn r * 3 ≤ length grid₀
+  pub valuePlaces : nodesIn r ≤ length values₀
+  pub edgePlaces : edgesIn r * 3 ≤ length edges₀
+  pub gridFront : take (nodesIn r * 3) grid₁ ≡ whenSampled r (grid bounds cells (nodes cells))
+  pub valueFront : take (nodesIn r) values₁ ≡ whenSampled r (latticeValues qs ns levels bounds cells)
+  pub edgeFront : take (edgesIn r * 3) edges₁ ≡ edgeWords (whenSampled r (latticeEdges qs ns levels bounds cells))

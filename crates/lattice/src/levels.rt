@@ -1,0 +1,65 @@
+// Values near a level, set onto it.
+ghost use mathlib.Core.Path.{_≡_};
+ghost use Rattle.lattice.specs.Values as Values;
+
+// |x|. Of -0 it is +0.
+fn magnitude(x: f64) -> f64
+    ensures { λ r. ⌜ r ≡ Values.magnitude x ⌝ }
+{
+    if x < 0.0 {
+        return -x;
+    }
+    if x == 0.0 {
+        return 0.0;
+    }
+    x
+}
+
+// The greatest of the values' magnitudes and 2^-1022.
+fn largest(values: &[f64]) -> f64
+    ensures { λ r. ⌜ r ≡ Values.largest Values.leastNormal (now (values .entry)) ⌝ }
+{
+    let mut s = 2.2250738585072014e-308;
+    let mut i: usize = 0;
+    while i < values.len() {
+        s = float::max(s, magnitude(values[i]));
+        i += 1;
+    }
+    s
+}
+
+// The greater of s and the magnitude of a level, if that is finite.
+fn with_level(s: f64, level: f64) -> f64
+    ensures { λ r. ⌜ r ≡ Values.withLevel s level ⌝ }
+{
+    if float::is_finite(level) {
+        return float::max(s, magnitude(level));
+    }
+    s
+}
+
+// A value within t of a finite level is set onto it.
+fn onto(t: f64, level: f64, v: f64) -> f64
+    ensures { λ r. ⌜ r ≡ Values.onto t level v ⌝ }
+{
+    if !float::is_finite(level) {
+        return v;
+    }
+    if magnitude(v - level) <= t {
+        return level;
+    }
+    v
+}
+
+// All values, first set onto the lower level and then onto the upper one.
+pub fn set_onto_levels(values: &mut [f64], lower: f64, upper: f64)
+    ensures { λ _. ⌜ now (values .exit) ≡ Values.ontoLevels lower upper (now (values .entry)) ⌝ }
+{
+    let scale = with_level(with_level(largest(values), lower), upper);
+    let t = 64.0 * 2.220446049250313e-16 * scale;
+    let mut i: usize = 0;
+    while i < values.len() {
+        values[i] = onto(t, upper, onto(t, lower, values[i]));
+        i += 1;
+    }
+}
