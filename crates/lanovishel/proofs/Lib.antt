@@ -1,7 +1,9 @@
--- Laws of calls that answer 0. `Volume`: page twelve's next printing; `Price`: the powder tariff; `Nearest`: nearest corners; `Outlines`: layer outlines. `Sheets` has what the calls on sheets hand on, `SheetLaws` their laws.
+-- Laws of calls that answer 0. `Volume`: page twelve's next printing; `Price`: the powder tariff; `Nearest`: nearest corners; `Outlines`: layer outlines. `Sheets` has what the calls on sheets hand on, `SheetLaws` their laws; `Sample` and `SampleLaws` likewise for sampling.
 pub mod Volume
 pub mod Price
 pub mod Nearest
 pub mod Outlines
 pub mod Sheets
 pub mod SheetLaws
+pub mod Sample
+pub mod SampleLaws

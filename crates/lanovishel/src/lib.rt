@@ -2,6 +2,7 @@
 // pointer. None asks anything of its caller: a bad call is answered with its number.
 use checking::Verdict;
 use editing::Outcome;
+use lattice::Lattice;
 use layers::Layer;
 use price::Quote;
 use questions::Asked;
@@ -20,6 +21,7 @@ ghost use Rattle.lanovishel.specs.Outlines.{OutlinesCall};
 ghost use Rattle.lanovishel.specs.Sheets.{ReadSheetCall, WriteSheetCall, ConvertSheetCall};
 ghost use Rattle.lanovishel.specs.Edit.{EditCall};
 ghost use Rattle.lanovishel.specs.Improve.{ImproveCall};
+ghost use Rattle.lanovishel.specs.Sample.{SampleCall};
 
 // The square root of IEEE 754.
 #[no_mangle]
@@ -281,6 +283,43 @@ pub extern "C" fn lanovishel_improve(
             *answer = [0, 0, 0];
             *place = why.place();
             why.number()
+        }
+    }
+}
+
+// Samples a field sheet on the lattice of a box: 0 with the nodes in the grid, the nodes in the values and the edges in
+// their list, or the number of the refusal. `bounds` is the lower corner of the box, then the upper.
+#[no_mangle]
+pub extern "C" fn lanovishel_sample(
+    coefficients: &[f64],
+    powers: &[u32],
+    levels: &[f64; 2],
+    bounds: &[f64; 6],
+    cells: u32,
+    grid: &mut [f64],
+    values: &mut [f64],
+    edges: &mut [u32],
+    counts: &mut [u32; 3],
+) -> u32
+    ensures { λ r. ⌜ SampleCall (now (coefficients .entry)) (now (powers .entry)) (now (levels .entry)) (now (bounds .entry)) cells (now (grid .entry)) (now (values .entry)) (now (edges .entry)) (now (grid .exit)) (now (values .exit)) (now (edges .exit)) (now (counts .exit)) r ⌝ }
+{
+    match lattice::sample(
+        coefficients,
+        powers,
+        levels,
+        bounds,
+        cells,
+        grid,
+        values,
+        edges,
+    ) {
+        Lattice::Sampled(nodes, found) => {
+            *counts = [low_word(nodes), low_word(nodes), low_word(found)];
+            0
+        }
+        Lattice::Refused(why) => {
+            *counts = [0, 0, 0];
+            why
         }
     }
 }

@@ -5,14 +5,14 @@ use Prim.Native.Nat.{ℕ, zero, suc, _+_, _*_, _≤_, _<_}
 use native.Mathlib.Nat.{add-zero, add-suc, suc-add, zero-add}
 use native.Mathlib.Numerals.{add-one}
 use native.Mathlib.Omega.{arith}
-use lib.ListN.{length, take, drop, set, length-append, length-set}
+use lib.ListN.{length, take, drop, set, length-append, length-map, length-set}
 use lib.Seq.{sets, sets-eq, take-at, take-length}
 use lib.Ieee.{Float}
 use Rattle.float.specs.declared.Point.{Point}
 use Rattle.field.specs.Sheet.{value}
 use Rattle.lattice.specs.Node.{perSide, nodeAt, node, grid}
 use Rattle.lattice.specs.Values.{sampled}
-use Rattle.lattice.specs.Sample.{nodes, rawValues}
+use Rattle.lattice.specs.Sample.{nodes, rawValues, latticeValues}
 use Rattle.lattice.specs.Stages.{placeOf, following, Placeable, Fillable, NodesFilled}
 use Rattle.lattice.specs.declared.nodes.Place.{Place}
 use Rattle.lattice.proofs.Places.{first-place, node-placed, next-place}
@@ -87,6 +87,10 @@ module _ (qs : List Float) (ns : List ℕ) (bounds : List Float) (cells : ℕ) w
   pub sampled-none : (l : List Float) → l ≡ sets l 0 (sampled qs ns bounds cells 0)
   unfolding sampled
   sampled-none l = refl
+
+pub values-length : (qs : List Float) (ns : List ℕ) (levels bounds : List Float) (cells : ℕ) → length (latticeValues qs ns levels bounds cells) ≡ nodes cells
+unfolding latticeValues
+values-length qs ns levels bounds cells = length-map (rawValues qs ns bounds cells) _ ∙ sampled-length qs ns bounds cells (nodes cells)
 
 -- ---- the loop over nodes: the grid and the values have the nodes so far, and the place is that of the next
 

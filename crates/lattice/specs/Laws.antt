@@ -1,5 +1,5 @@
--- What is shown of the list of crossed edges (document 02, F-2): it holds every crossed edge exactly once and no other, and it rises by node, step and label. Definitions only; `edges-listed` of `proofs/Listed` proves it.
-use Prim.Native.Nat.{ℕ, _+_, _<_}
+-- What is shown of sampling (document 02, F-2): the list of crossed edges holds every one of them exactly once and no other, and rises by node, step and label (`lattice-listed` of `proofs/Listed`); a call is answered with 0 just where it passes the questions (`zero-means` of `proofs/Answers`). Definitions only.
+use Prim.Native.Nat.{ℕ, _+_, _*_, _<_, _≤_}
 use mathlib.Core.Path.{_≡_}
 use mathlib.Core.Logic.{_⊎_}
 use mathlib.Core.Bool.{Bool, true, _&&_, cond}
@@ -9,8 +9,10 @@ use lib.ListN.{length, getD}
 use lib.Ieee as Ieee
 use lib.Ieee.{Float}
 use Rattle.float.specs.Order.{isFinite}
+use Rattle.field.specs.Valid.{every, sheetOk}
 use Rattle.lattice.specs.Node.{cube, alongX, alongY, alongZ}
 use Rattle.lattice.specs.Edges.{Edge, stepX, stepY, stepZ, stepEnd, levelOf, valueAt}
+use Rattle.lattice.specs.Sample.{nodes, rawValues, latticeEdges}
 
 -- an edge that stays in the lattice, whose label's level is finite, above the value at one end and not above that at the other
 pub record CrossedEdge (n : ℕ) (lower upper : Float) (values : List Float) (e : Edge) : Type 0 where
@@ -43,3 +45,13 @@ pub record ListsCrossed (n : ℕ) (lower upper : Float) (values : List Float) (e
   pub once : (e : Edge) → CrossedEdge n lower upper values e → timesListed e es ≡ 1
   pub no-other : (e : Edge) → (CrossedEdge n lower upper values e → ⊥) → timesListed e es ≡ 0
   pub rising : (i j : ℕ) → i < j → j < length es → EdgeBefore (getD es i noEdge) (getD es j noEdge)
+
+-- a call that passes the questions
+pub record Samples (qs : List Float) (ns : List ℕ) (levels bounds : List Float) (cells gridPlaces valuePlaces edgePlaces : ℕ) : Type 0 where
+  pub sheet : sheetOk qs ns levels bounds ≡ true
+  pub some : 4 ≤ cells
+  pub few : cells ≤ 128
+  pub gridRoom : nodes cells * 3 ≤ gridPlaces
+  pub valueRoom : nodes cells ≤ valuePlaces
+  pub finite : every isFinite (rawValues qs ns bounds cells) ≡ true
+  pub edgeRoom : length (latticeEdges qs ns levels bounds cells) * 3 ≤ edgePlaces
