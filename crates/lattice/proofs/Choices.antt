@@ -11,7 +11,7 @@ use lib.Ieee as Ieee
 use lib.Ieee.{Float, nan}
 use Rattle.float.specs.Point.{less}
 use Rattle.float.specs.Order.{greater, isFinite}
-use Rattle.lattice.specs.Values.{leastNormal, magnitude, largest, withLevel, valueScale, onto}
+use Rattle.lattice.specs.Values.{leastNormal, magnitude, largest, withLevel, valueScale, near?, onto}
 use Rattle.lattice.specs.Edges.{crossedBy}
 
 chosen : {A : Type 0} {b : Bool} (x y : A) (k : Bool) → b ≡ k → cond k x y ≡ cond b x y
@@ -25,13 +25,18 @@ pub with-none : (s level : Float) → isFinite level ≡ false → s ≡ withLev
 unfolding withLevel
 with-none s level f = chosen (greater s (magnitude level)) s false f
 
-pub onto-none : (t level v : Float) → isFinite level ≡ false → v ≡ onto t level v
-unfolding onto
-onto-none t level v f = chosen level v false (ap (λ (b : Bool). b && Ieee.le (magnitude (less v level)) t) f)
+pub near-test : (t level v m : Float) → m ≡ magnitude (less v level) → Ieee.le m t ≡ true → isFinite level ≡ near? t level v
+unfolding near?
+near-test t level v m e g = sym (ap (λ (b : Bool). isFinite level && b) (ap (λ (x : Float). Ieee.le x t) (sym e) ∙ g) ∙ and-true (isFinite level))
 
-pub onto-test : (t level v m : Float) (k : Bool) → isFinite level ≡ true → m ≡ magnitude (less v level) → Ieee.le m t ≡ k → cond k level v ≡ onto t level v
+pub near-none : (t level v m : Float) → m ≡ magnitude (less v level) → Ieee.le m t ≡ false → false ≡ near? t level v
+unfolding near?
+near-none t level v m e g = sym (ap (λ (b : Bool). isFinite level && b) (ap (λ (x : Float). Ieee.le x t) (sym e) ∙ g) ∙ and-false (isFinite level))
+
+-- a level tested and then taken or not
+pub onto-test : (t level v : Float) (b : Bool) → b ≡ near? t level v → (k : Bool) → b ≡ k → cond k level v ≡ onto t level v
 unfolding onto
-onto-test t level v m k f e g = chosen level v k (ap (λ (b : Bool). b && Ieee.le (magnitude (less v level)) t) f ∙ ap (λ (x : Float). Ieee.le x t) (sym e) ∙ g)
+onto-test t level v b e k g = chosen level v k (sym e ∙ g)
 
 -- two values on one side of a level, and two on either side
 pub one-side : (level v w : Float) → Bool·beq (Ieee.lt v level) (Ieee.lt w level) ≡ true → false ≡ crossedBy level v w

@@ -163,10 +163,3 @@ module _ (n : ℕ) (lower upper : Float) (values : List Float) where
     by-labels w e =
         ap (λ (x : Float). passing (crossedBy upper (valueAt values a) x) 0 ++ passing (crossedBy lower (valueAt values a) x) 1) e
         ∙ sym (two-labels ∙ ap₂ (λ (x y : Bool). passing x 0 ++ passing y 1) (by-end 0) (by-end 1))
-
-pub noted-few : (b : Bool) (e : Edge) (c c′ : ℕ) (l l′ : List ℕ) → EdgesNoted (cond b (e ∷ []) []) c l c′ l′ → c′ ≤ c + 1
-noted-few b e c c′ l l′ p = go b (p .number)
-  where
-    go : (b : Bool) → c′ ≡ c + length (cond b (e ∷ []) []) → c′ ≤ c + 1
-    go true q = omega arith
-    go false q = omega arith

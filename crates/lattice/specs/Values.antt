@@ -1,6 +1,6 @@
 -- The field at the nodes, and the values near a level set onto it, as `extract` has it. Definitions only.
 use Prim.Native.Nat.{ℕ, zero, suc}
-use mathlib.Core.Bool.{false, _&&_, cond}
+use mathlib.Core.Bool.{Bool, false, _&&_, cond}
 use mathlib.Core.List.{List, [], _∷_, _++_, map}
 use lib.Ieee as Ieee
 use lib.Ieee.{Float, nan, inf, fin, binary64, ofBits}
@@ -50,10 +50,15 @@ valueScale lower upper values = withLevel (withLevel (largest leastNormal values
 abbrev pub tolerance : Float → Float
 tolerance scale = times (times sixtyFour epsilon) scale
 
--- a value within t of a finite level is set onto it
-unfoldable pub onto : Float → Float → Float → Float
+-- a value is within t of a finite level
+unfoldable pub near? : Float → Float → Float → Bool
 unfolding magnitude isFinite
-onto t level v = cond (isFinite level && Ieee.le (magnitude (less v level)) t) level v
+near? t level v = isFinite level && Ieee.le (magnitude (less v level)) t
+
+-- it is then set onto the level
+unfoldable pub onto : Float → Float → Float → Float
+unfolding near?
+onto t level v = cond (near? t level v) level v
 
 -- onto the lower level first; the upper one is compared with the value as that left it
 abbrev pub ontoBoth : Float → Float → Float → Float → Float

@@ -68,7 +68,7 @@ fn note(
     list: &mut [u32],
 ) -> usize
     requires { ⌜ (a < 4294967296) × (d < 7) × (label < 2) × (count < 4294967296) ⌝ }
-    ensures { λ r. ⌜ EdgesNoted (cond (Edges.crossedBy level v w) (record { node = a; step = d; label = label } ∷ []) []) count (now (list .entry)) r (now (list .exit)) ⌝ }
+    ensures { λ r. ⌜ EdgesNoted (cond (Edges.crossedBy level v w) (record { node = a; step = d; label = label } ∷ []) []) count (now (list .entry)) r (now (list .exit)) × (r ≤ count + 1) ⌝ }
 {
     if !crossed_by(level, v, w) {
         return count;
@@ -115,8 +115,9 @@ fn note_step(
     requires { ⌜ (length (now values) ≡ Node.cube n) × (Standing n a p) × (d < 7) × (count ≤ a * 14 + d * 2) ⌝ }
     ensures { λ r. ⌜ EdgesNoted (Edges.crossedAmong n lower upper (now (values .entry)) (a * 14 + d * 2) 2) count (now (list .entry)) r (now (list .exit)) ⌝ }
 {
+    let b = step_end(n, a, p, d);
     let v = values[a];
-    let w = values[step_end(n, a, p, d)];
+    let w = values[b];
     let more = note(upper, v, w, a, d, 0, count, list);
     note(lower, v, w, a, d, 1, more, list)
 }

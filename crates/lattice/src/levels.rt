@@ -38,20 +38,28 @@ fn with_level(s: f64, level: f64) -> f64
     s
 }
 
-// A value within t of a finite level is set onto it.
-fn onto(t: f64, level: f64, v: f64) -> f64
-    ensures { λ r. ⌜ r ≡ Values.onto t level v ⌝ }
+// Whether a value is within t of a finite level.
+fn near(t: f64, level: f64, v: f64) -> bool
+    ensures { λ r. ⌜ r ≡ Values.near? t level v ⌝ }
 {
-    if !float::is_finite(level) {
-        return v;
-    }
     if magnitude(v - level) <= t {
-        return level;
+        return float::is_finite(level);
     }
-    v
+    false
 }
 
-// All values, first set onto the lower level and then onto the upper one.
+// A value near the lower level is set onto it, then one near the upper level onto that.
+fn onto_both(t: f64, lower: f64, upper: f64, v: f64) -> f64
+    ensures { λ r. ⌜ r ≡ Values.ontoBoth t lower upper v ⌝ }
+{
+    let first = if near(t, lower, v) { lower } else { v };
+    if near(t, upper, first) {
+        return upper;
+    }
+    first
+}
+
+// All values, those near a level set onto it.
 pub fn set_onto_levels(values: &mut [f64], lower: f64, upper: f64)
     ensures { λ _. ⌜ now (values .exit) ≡ Values.ontoLevels lower upper (now (values .entry)) ⌝ }
 {
@@ -59,7 +67,7 @@ pub fn set_onto_levels(values: &mut [f64], lower: f64, upper: f64)
     let t = 64.0 * 2.220446049250313e-16 * scale;
     let mut i: usize = 0;
     while i < values.len() {
-        values[i] = onto(t, upper, onto(t, lower, values[i]));
+        values[i] = onto_both(t, lower, upper, values[i]);
         i += 1;
     }
 }

@@ -7,16 +7,16 @@ use Rattle.blank.proofs.blank_bytes.Statement.{statement}
 use Rattle.blank.proofs.blank_bytes.Tie as tie
 
 abbrev Inv-loop : tie.InvT-loop
-Inv-loop list₀ from k₀ list k = Blanking 0 list₀ from list k
+Inv-loop bytes₀ from k₀ bytes k = Blanking 0 bytes₀ from bytes k
 
 abbrev μ-loop : tie.MeasureT-loop
-μ-loop list₀ from k₀ list k = length list₀ - k
+μ-loop bytes₀ from k₀ bytes k = length bytes₀ - k
 
 loop-holds : tie.Need-loop-holds Inv-loop μ-loop
 loop-holds c = blank-starts 0 _ _ (c .pre)
 
-slice-write-list : tie.Need-slice-write-list Inv-loop μ-loop
-slice-write-list c = omega arith
+slice-write-bytes : tie.Need-slice-write-bytes Inv-loop μ-loop
+slice-write-bytes c = omega arith
 
 add-k : tie.Need-add-k Inv-loop μ-loop
 add-k c = omega arith
@@ -40,7 +40,7 @@ blank-bytes-spec =
     Inv-loop
     μ-loop
     loop-holds
-    slice-write-list
+    slice-write-bytes
     add-k
     loop-less
     loop-again

@@ -8,19 +8,19 @@ use Rattle.blank.proofs.blank_numbers.Statement.{statement}
 use Rattle.blank.proofs.blank_numbers.Tie as tie
 
 abbrev Inv-loop : tie.InvT-loop
-Inv-loop list₀ from k₀ list k = Blanking (ofBits binary64 0) list₀ from list k
+Inv-loop numbers₀ from k₀ numbers k = Blanking (ofBits binary64 0) numbers₀ from numbers k
 
 abbrev μ-loop : tie.MeasureT-loop
-μ-loop list₀ from k₀ list k = length list₀ - k
+μ-loop numbers₀ from k₀ numbers k = length numbers₀ - k
 
 loop-holds : tie.Need-loop-holds Inv-loop μ-loop
 loop-holds c = blank-starts (ofBits binary64 0) _ _ (c .pre)
 
-mul-list : tie.Need-mul-list Inv-loop μ-loop
-mul-list c = omega arith
+mul-numbers : tie.Need-mul-numbers Inv-loop μ-loop
+mul-numbers c = omega arith
 
-slice-write-list : tie.Need-slice-write-list Inv-loop μ-loop
-slice-write-list c = omega arith
+slice-write-numbers : tie.Need-slice-write-numbers Inv-loop μ-loop
+slice-write-numbers c = omega arith
 
 add-k : tie.Need-add-k Inv-loop μ-loop
 add-k c = omega arith
@@ -44,8 +44,8 @@ blank-numbers-spec =
     Inv-loop
     μ-loop
     loop-holds
-    mul-list
-    slice-write-list
+    mul-numbers
+    slice-write-numbers
     add-k
     loop-less
     loop-again

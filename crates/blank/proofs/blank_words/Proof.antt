@@ -7,19 +7,19 @@ use Rattle.blank.proofs.blank_words.Statement.{statement}
 use Rattle.blank.proofs.blank_words.Tie as tie
 
 abbrev Inv-loop : tie.InvT-loop
-Inv-loop list₀ from k₀ list k = Blanking 0 list₀ from list k
+Inv-loop words₀ from k₀ words k = Blanking 0 words₀ from words k
 
 abbrev μ-loop : tie.MeasureT-loop
-μ-loop list₀ from k₀ list k = length list₀ - k
+μ-loop words₀ from k₀ words k = length words₀ - k
 
 loop-holds : tie.Need-loop-holds Inv-loop μ-loop
 loop-holds c = blank-starts 0 _ _ (c .pre)
 
-mul-list : tie.Need-mul-list Inv-loop μ-loop
-mul-list c = omega arith
+mul-words : tie.Need-mul-words Inv-loop μ-loop
+mul-words c = omega arith
 
-slice-write-list : tie.Need-slice-write-list Inv-loop μ-loop
-slice-write-list c = omega arith
+slice-write-words : tie.Need-slice-write-words Inv-loop μ-loop
+slice-write-words c = omega arith
 
 add-k : tie.Need-add-k Inv-loop μ-loop
 add-k c = omega arith
@@ -43,8 +43,8 @@ blank-words-spec =
     Inv-loop
     μ-loop
     loop-holds
-    mul-list
-    slice-write-list
+    mul-words
+    slice-write-words
     add-k
     loop-less
     loop-again

@@ -1,4 +1,5 @@
 -- `lattice::edges::note` meets its contract. Assumes nothing.
+use native.Mathlib.Omega.{arith}
 use Rattle.field.proofs.Checks.{failed, held}
 use Rattle.lattice.proofs.Noting.{noted-none, noted-one}
 use borrow.Author.Needs.{needs}
@@ -11,7 +12,7 @@ crossed-by-requires c κs = search needs
 returns : tie.Need-returns
 returns c =
     let a = c .before .before .before .args in
-    noted-none _ _ (a .count) (a .list .now) (failed (c .before .crossed-by .ensures) (c .if1 .taken))
+    (noted-none _ _ (a .count) (a .list .now) (failed (c .before .crossed-by .ensures) (c .if1 .taken)), omega arith)
 
 mul-put : tie.Need-mul-put
 mul-put c = search needs
@@ -46,11 +47,13 @@ same-length c = search needs
 returns-2 : tie.Need-returns-2
 returns-2 c =
     let a = c .before .before .before .before .before .before .before .before .before .before .before .before .before .before .before .args in
-    let cut = held (c .before .before .before .before .before .before .before .before .before .before .before .before .before .crossed-by .ensures) (c .before .before .before .before .before .before .before .before .before .before .before .before .if1 .left) in
-    noted-one _ (a .a) (a .d) (a .label) (a .count) (a .list .now) _ _ _ cut
-    (c .before .before .before .before .before .before .before .before .before .before .put .ensures)
-    (c .before .before .before .before .before .before .put2 .ensures)
-    (c .before .before .put3 .ensures)
+    let cut = held (c .before .before .before .before .before .before .before .before .before .before .before .before .before .crossed-by .ensures) (c .before .before .before .before .before .before .before .before .before .before .before .before .if1 .left) in (
+      noted-one _ (a .a) (a .d) (a .label) (a .count) (a .list .now) _ _ _ cut
+          (c .before .before .before .before .before .before .before .before .before .before .put .ensures)
+          (c .before .before .before .before .before .before .put2 .ensures)
+          (c .before .before .put3 .ensures),
+      omega arith,
+    )
 
 pub note-spec : {M : Type 1} → statement M
 note-spec =

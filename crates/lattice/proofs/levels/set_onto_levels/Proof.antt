@@ -5,7 +5,7 @@ use Prim.Native.Nat.{_≤_, _-_}
 use native.Mathlib.Omega.{arith}
 use lib.ListN.{length, length-set}
 use lib.Ieee.{Float, nan}
-use Rattle.lattice.specs.Values.{tolerance, onto, ontoBoth}
+use Rattle.lattice.specs.Values.{tolerance, ontoBoth}
 use Rattle.lattice.proofs.Choices.{scaled, changed, change-more, change-end}
 use borrow.Author.Needs.{needs}
 use Rattle.lattice.proofs.levels.set_onto_levels.Statement.{statement}
@@ -29,17 +29,14 @@ with-level-requires-2 c κs = search needs
 loop-holds : tie.Need-loop-holds Inv-loop μ-loop
 loop-holds c = (omega arith, refl, refl)
 
-mul-onto : tie.Need-mul-onto Inv-loop μ-loop
-mul-onto c = search needs
+mul-onto-both : tie.Need-mul-onto-both Inv-loop μ-loop
+mul-onto-both c = search needs
 
-slice-read-onto : tie.Need-slice-read-onto Inv-loop μ-loop
-slice-read-onto c = search needs
+slice-read-onto-both : tie.Need-slice-read-onto-both Inv-loop μ-loop
+slice-read-onto-both c = search needs
 
-onto-requires : tie.Need-onto-requires Inv-loop μ-loop
-onto-requires c κs = search needs
-
-onto-requires-2 : tie.Need-onto-requires-2 Inv-loop μ-loop
-onto-requires-2 c κs = search needs
+onto-both-requires : tie.Need-onto-both-requires Inv-loop μ-loop
+onto-both-requires c κs = search needs
 
 mul-values : tie.Need-mul-values Inv-loop μ-loop
 mul-values c = search needs
@@ -55,14 +52,12 @@ loop-less c = simp length-set (omega arith)
 
 loop-again : tie.Need-loop-again Inv-loop μ-loop
 loop-again c =
-    let a = c .before .before .before .before .before .before .before .before .before .before .args in
-    let l = c .before .before .before .before .loop in
-    let t = tolerance (c .before .before .before .before .before .with-level2 .result) in
-    let inside = c .before .before .before .loop-test .taken in (
-      omega arith,
-      simp length-set (l .inv .1),
-      change-more (ontoBoth t (a .lower) (a .upper)) (a .values .now) (l .i) (l .values) nan (c .onto2 .result) (omega arith) (l .inv .2) (c .onto2 .ensures ∙ ap (onto t (a .upper)) (c .before .onto .ensures)),
-    )
+    let l = c .before .before .before .loop in
+    let s = c .before .before .before .before in
+    let a = s .before .before .before .before .before .args in
+    let t = tolerance (s .with-level2 .result) in
+    let inside = c .before .before .loop-test .taken in
+    (omega arith, simp length-set (l .inv .1), change-more (ontoBoth t (a .lower) (a .upper)) (a .values .now) (l .i) (l .values) nan (c .onto-both .result) (omega arith) (l .inv .2) (c .onto-both .ensures))
 
 same-length : tie.Need-same-length Inv-loop μ-loop
 same-length c = c .before .loop .inv .1
@@ -84,10 +79,9 @@ set-onto-levels-spec =
     with-level-requires
     with-level-requires-2
     loop-holds
-    mul-onto
-    slice-read-onto
-    onto-requires
-    onto-requires-2
+    mul-onto-both
+    slice-read-onto-both
+    onto-both-requires
     mul-values
     slice-write-values
     add-i
