@@ -1,6 +1,7 @@
 //! Takes the original's source from the folder that `LANOVISHEL_ORIGINAL` names, or from
-//! ../shared/docs/src beside the project, and makes document 01's edits. Each edit must match
-//! exactly once. Where no source is there, the cfg `original` is not set.
+//! ../shared/docs/src beside the project, and makes document 01's edits and the one that hands out
+//! what `extract` samples. Each edit must match exactly once. Where no source is there, the cfg
+//! `original` is not set.
 use std::{
     env, fs,
     path::{Path, PathBuf},
@@ -23,6 +24,24 @@ const SKIP: [&str; 2] = [
         if let Some((keep, remove, _)) = best {",
 ];
 
+/// `extract` ends where it has its keys, and hands out what it has then.
+const SAMPLES: [&str; 2] = [
+    "pub fn extract<F: ScalarField>(band: &Band<'_, F>, cells: usize) -> Result<TriangleMesh> {",
+    "pub fn extract<F: ScalarField>(band: &Band<'_, F>, cells: usize) -> Result<crate::Samples> {",
+];
+
+/// What follows the keys, and the end that stands for it and for all that is behind.
+const KEYS: [&str; 2] = [
+    "    let roots = lattice\n",
+    "    Ok(crate::Samples {
+        grid: lattice.grid,
+        values: lattice.values,
+        keys: lattice.keys,
+    })
+}
+",
+];
+
 fn main() {
     println!("cargo::rustc-check-cfg=cfg(original)");
     println!("cargo::rerun-if-env-changed=LANOVISHEL_ORIGINAL");
@@ -40,10 +59,12 @@ fn main() {
     });
     let oracle = edited(&triangles, NO_SMOOTHING);
     let skipping = edited(&oracle, SKIP);
-    let texts = [error, quads, oracle, skipping];
+    let sampling = ended(&edited(&triangles, SAMPLES), KEYS);
+    let texts = [error, quads, oracle, skipping, sampling];
     let folder = PathBuf::from(env::var_os("OUT_DIR").unwrap());
     let mut modules = String::new();
-    for (name, text) in ["error", "quads", "oracle", "skipping"].iter().zip(texts) {
+    let names = ["error", "quads", "oracle", "skipping", "sampling"];
+    for (name, text) in names.iter().zip(texts) {
         let path = folder.join(format!("{name}.rs"));
         fs::write(&path, text).unwrap();
         modules += &format!("#[allow(warnings, clippy::all)]\n#[path = {path:?}]\nmod {name};\n");
@@ -53,10 +74,21 @@ fn main() {
 }
 
 fn edited(text: &str, [from, to]: [&str; 2]) -> String {
+    let (before, behind) = around(text, from);
+    [before, to, behind].concat()
+}
+
+fn ended(text: &str, [from, end]: [&str; 2]) -> String {
+    let (before, _) = around(text, from);
+    [before, end].concat()
+}
+
+/// What is before and behind the only match of an edit.
+fn around<'a>(text: &'a str, from: &str) -> (&'a str, &'a str) {
     let found = text.matches(from).count();
     assert!(
         found == 1,
         "an edit must match once and matches {found} times:\n{from}"
     );
-    text.replacen(from, to, 1)
+    text.split_once(from).unwrap()
 }

@@ -3,7 +3,8 @@ use crate::table::{head, means, once, row};
 use differential::{
     call::Call,
     checking::mesh,
-    improving::{pinch, told},
+    field::told,
+    improving::pinch,
     random::Random,
     surfaces::{Surface, bipyramid, sphere},
 };
@@ -40,8 +41,11 @@ fn measure(name: &str, surface: &Surface, rounds: u32) {
     call.rounds = rounds;
     let left = improve(&mut call.clone());
     let ours = once(|| call.clone(), improve);
-    let how = told(&call);
-    let theirs = once(|| mesh(surface), |mesh| original::improve(mesh, &how));
+    let band = told(&call);
+    let theirs = once(
+        || mesh(surface),
+        |mesh| original::improve(mesh, &band, rounds as usize),
+    );
     let triangles = surface.triangle_count();
     let collapses = (triangles - left.triangles as usize) / 2;
     let done = format!("{collapses} collapses, {} flips", left.flips);

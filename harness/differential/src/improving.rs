@@ -3,12 +3,13 @@ use crate::{
     call::Call,
     checking::{mesh, some_work_words},
     editing::{label, scramble, set_then_0, spoil},
+    field::{self, Term, some_terms, told},
     questions::{self, No, ask},
     random::Random,
     surfaces::{self, Surface},
 };
 use lanovishel::raw;
-use original::{FieldSheet, Improving, Mesh};
+use original::Mesh;
 
 /// What happened in the rounds of a call.
 #[derive(Clone, Copy, Debug, Default)]
@@ -35,14 +36,11 @@ pub fn model(before: &Call) -> Option<(Call, Story)> {
         return Some((after, story));
     }
     let mut left = mesh(&before.surface);
-    let how = Improving {
-        rounds: 1,
-        ..told(before)
-    };
+    let band = told(before);
     for _ in 0..before.rounds {
         let triangles = left.faces.len();
         story.piece_of_four |= original::has_piece_of_four(&left.faces);
-        story.flips += original::improve_skipping(&mut left, &how)?.expect("a round");
+        story.flips += original::improve_skipping(&mut left, &band, 1)?.expect("a round");
         story.collapses += (triangles - left.faces.len()) / 2;
     }
     story.skipped = original::skipped();
@@ -58,7 +56,8 @@ pub fn compare_with_original(before: &Call, wanted: &Call, story: Story) -> Resu
         return Ok(());
     }
     let mut left = mesh(&before.surface);
-    let Some(flips) = original::improve(&mut left, &told(before)) else {
+    let rounds = before.rounds as usize;
+    let Some(flips) = original::improve(&mut left, &told(before), rounds) else {
         return Ok(());
     };
     let mut theirs = wanted.clone();
@@ -81,45 +80,10 @@ fn put(left: &Mesh, surface: &mut Surface) {
     set_then_0(&mut surface.labels, &left.labels);
 }
 
-/// What the original is told besides the surface.
-pub fn told(call: &Call) -> Improving {
-    let powers = call.powers.chunks_exact(3).map(|p| [p[0], p[1], p[2]]);
-    let [x0, y0, z0, x1, y1, z1] = call.bounds;
-    Improving {
-        field: FieldSheet {
-            terms: call.coefficients.iter().copied().zip(powers).collect(),
-        },
-        levels: call.levels,
-        bounds: [[x0, y0, z0], [x1, y1, z1]],
-        rounds: call.rounds as usize,
-    }
-}
-
 fn questions(call: &Call) -> Result<(), No> {
     questions::editing(&call.surface, call.work.len())?;
-    let [lower, upper] = call.levels;
-    let sheet = call.coefficients.len() <= 64
-        && call.coefficients.iter().all(|q| q.is_finite())
-        && call.powers.len() == 3 * call.coefficients.len()
-        && call.powers.iter().all(|&power| power <= 3);
-    let levels = (lower.is_finite() || lower == f64::NEG_INFINITY) && upper.is_finite();
-    let wide = (0..3).all(|axis| is_side(call.bounds[axis], call.bounds[axis + 3]));
-    ask(sheet && levels && lower < upper && wide, 13)?;
+    field::asked(call)?;
     ask(call.rounds <= 1000, 14)
-}
-
-/// Whether a side of the box lies within ±2^20 and is 2^-20 or more, exactly.
-fn is_side(low: f64, high: f64) -> bool {
-    let (limit, least) = (2f64.powi(20), 2f64.powi(-20));
-    let within = |x: f64| (-limit..=limit).contains(&x);
-    if !within(low) || !within(high) || high <= low {
-        return false;
-    }
-    // The rounded difference and what the rounding left out.
-    let rounded = high - low;
-    let part = rounded - high;
-    let left_out = (high - (rounded - part)) - (low + part);
-    rounded > least || rounded == least && left_out >= 0.0
 }
 
 /// The call as ours leaves it.
@@ -168,7 +132,7 @@ pub fn random_call(random: &mut Random) -> Call {
         words = some_work_words(&surface, random);
     }
     let mut call = Call::new(surface, words);
-    field(&mut call, random);
+    some_field(&mut call, random);
     call.rounds = random.below(7) as u32;
     if call.surface.triangle_count() < 20 && random.one_in(20) {
         call.rounds = 1000;
@@ -218,21 +182,17 @@ pub fn pinch(surface: &mut Surface, random: &mut Random) {
 }
 
 /// A field: round, slanting, random, with slopes that overflow, or none at all.
-fn field(call: &mut Call, random: &mut Random) {
-    let terms: Vec<(f64, [u32; 3])> = match random.below(8) {
-        0..4 => vec![(1.0, [2, 0, 0]), (1.0, [0, 2, 0]), (1.0, [0, 0, 2])],
+fn some_field(call: &mut Call, random: &mut Random) {
+    let terms: Vec<Term> = match random.below(8) {
+        0..4 => field::BALL.to_vec(),
         4 => (0..3)
             .map(|axis| (random.signed(), [0, 1, 2].map(|k| u32::from(k == axis))))
             .collect(),
-        5 => some_terms(random, 1.0),
-        6 => some_terms(random, f64::MAX),
+        5 => any_terms(random, 1.0),
+        6 => any_terms(random, f64::MAX),
         _ => Vec::new(),
     };
-    (call.coefficients, call.powers) = (Vec::new(), Vec::new());
-    for (coefficient, powers) in terms {
-        call.coefficients.push(coefficient);
-        call.powers.extend(powers);
-    }
+    field::lend(call, &terms);
     call.levels = random.pick(&[[-1.0, 1.0], [f64::NEG_INFINITY, 0.5], [0.25, 1e300]]);
     call.bounds = random.pick(&[
         [-2.0, -2.0, -2.0, 2.0, 2.0, 2.0],
@@ -247,51 +207,15 @@ fn field(call: &mut Call, random: &mut Random) {
     ]);
 }
 
-fn some_terms(random: &mut Random, size: f64) -> Vec<(f64, [u32; 3])> {
+fn any_terms(random: &mut Random, size: f64) -> Vec<Term> {
     let count = random.pick(&[1, 2, 5, 64]);
-    let mut term = || {
-        (
-            size * random.signed(),
-            [0; 3].map(|_| random.below(4) as u32),
-        )
-    };
-    (0..count).map(|_| term()).collect()
+    some_terms(random, count, size)
 }
 
 /// A field sheet, levels, a box or rounds that may be refused.
 fn spoil_field(call: &mut Call, random: &mut Random) {
-    let tiny = 2f64.powi(-20);
     match random.below(10) {
-        0 => call.coefficients.push(1.0),
-        1 => call.powers.push(1),
-        2 => {
-            let count = random.pick(&[64, 65]);
-            call.coefficients = vec![0.5; count];
-            call.powers = vec![1; 3 * count];
-        }
-        3 => {
-            call.coefficients
-                .push(random.pick(&[f64::NAN, f64::INFINITY]));
-            call.powers.extend([0, 1, 0]);
-        }
-        4 => {
-            call.coefficients.push(1.0);
-            call.powers.extend([3, 2, random.pick(&[3, 4, u32::MAX])]);
-        }
-        5 => {
-            let ends = [f64::NEG_INFINITY, -1.0, 0.0, 1.0, f64::INFINITY, f64::NAN];
-            call.levels = [random.pick(&ends), random.pick(&ends)];
-        }
-        6 => {
-            let high = random.pick(&[1_048_576.0, 1_048_576.0f64.next_up(), f64::NAN]);
-            call.bounds[3 + random.below(3)] = high;
-        }
-        7 => {
-            let side = random.pick(&[tiny, tiny.next_down(), tiny.next_up(), 0.0, -1.0]);
-            let low = random.pick(&[0.0, -1e-30, 1e-30, 1.0, -tiny / 4.0]);
-            let axis = random.below(3);
-            (call.bounds[axis], call.bounds[axis + 3]) = (low, low + side);
-        }
+        rule @ 0..field::RULES => field::break_a_rule(call, rule, random),
         _ => call.rounds = random.pick(&[1000, 1001, u32::MAX]),
     }
     if call.rounds == 1000 && call.surface.triangle_count() > 40 {

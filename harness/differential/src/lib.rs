@@ -8,6 +8,7 @@ pub mod checking;
 pub mod closed;
 pub mod damage;
 pub mod editing;
+pub mod field;
 pub mod finder;
 pub mod history;
 pub mod improving;

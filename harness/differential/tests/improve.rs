@@ -1,7 +1,9 @@
 //! Improving beside the original's rounds: points to the bit, every list, the flips.
 use differential::{
     call::Call,
-    cases, checking, improving, note_absence, report,
+    cases, checking,
+    field::told,
+    improving, note_absence, report,
     surfaces::{Surface, octahedron},
 };
 use lanovishel::{Field, Improved, Refusal};
@@ -80,7 +82,7 @@ fn a_tetrahedron_with_a_short_side() {
     assert_eq!((after.number, after.answer), (0, [4, 4, 0]));
     assert_eq!(after.surface.corners, [0, 1, 2, 0, 2, 3, 0, 3, 1, 2, 1, 3]);
     let mut theirs = checking::mesh(&call.surface);
-    if let Some(flips) = original::improve(&mut theirs, &improving::told(&call)) {
+    if let Some(flips) = original::improve(&mut theirs, &told(&call), 1) {
         assert_eq!(flips, Ok(0));
         assert_eq!(theirs.faces, [[0, 1, 2], [0, 2, 1]]);
     }

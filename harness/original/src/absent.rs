@@ -1,5 +1,5 @@
 //! What stands for the original's functions where its source is not there.
-use crate::{Improving, Point};
+use crate::{Band, Point, Samples};
 
 /// A mesh as the original has it.
 pub struct Mesh {
@@ -17,11 +17,16 @@ pub fn validate(_: &Mesh) -> Option<Result<(f64, f64), String>> {
 }
 
 /// No answer.
-pub fn improve(_: &mut Mesh, _: &Improving) -> Option<Result<usize, String>> {
+pub fn improve(_: &mut Mesh, _: &Band, _: usize) -> Option<Result<usize, String>> {
     None
 }
 
 /// No answer.
-pub fn improve_skipping(_: &mut Mesh, _: &Improving) -> Option<Result<usize, String>> {
+pub fn improve_skipping(_: &mut Mesh, _: &Band, _: usize) -> Option<Result<usize, String>> {
+    None
+}
+
+/// No answer.
+pub fn sample(_: &Band, _: usize) -> Option<Result<Samples, String>> {
     None
 }

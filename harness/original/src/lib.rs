@@ -1,4 +1,5 @@
-//! The Rust original, from its own source: `validate`, and `improve` as document 01 edits it.
+//! The Rust original, from its own source: `validate`, `improve` as document 01 edits it, and
+//! `extract` up to its keys.
 //!
 //! Nothing of that source is in this repository. Where it was not there at build time, every
 //! function answers `None`.
@@ -14,12 +15,12 @@ mod absent;
 mod present;
 
 #[cfg(not(original))]
-pub use absent::{Mesh, improve, improve_skipping, validate};
+pub use absent::{Mesh, improve, improve_skipping, sample, validate};
 pub use field::FieldSheet;
 pub use pieces::{has_piece_of_four, skipped};
 pub use point::Point;
 #[cfg(original)]
-pub use present::{Mesh, improve, improve_skipping, validate};
+pub use present::{Mesh, improve, improve_skipping, sample, validate};
 
 // The original's modules, and what they name as their crate's own.
 #[cfg(original)]
@@ -35,14 +36,22 @@ use {
 /// Whether the original's source was there when this crate was built.
 pub const PRESENT: bool = cfg!(original);
 
-/// What improving is told besides the mesh.
-pub struct Improving {
-    /// The field whose slopes give the normals of labels 0 and 1.
+/// A field between two levels, in a box.
+pub struct Band {
+    /// The field.
     pub field: FieldSheet,
     /// The lower and the upper level.
     pub levels: [f64; 2],
     /// The lower and the upper corner of the box.
     pub bounds: [Point; 2],
-    /// How many rounds.
-    pub rounds: usize,
+}
+
+/// What `extract` has when it has its keys.
+pub struct Samples {
+    /// The nodes of the lattice.
+    pub grid: Vec<Point>,
+    /// The field at each, near-level values set onto the level.
+    pub values: Vec<f64>,
+    /// The crossed edges: node, step, label.
+    pub keys: Vec<(usize, u8, u8)>,
 }
