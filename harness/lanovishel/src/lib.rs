@@ -4,22 +4,26 @@
 //! outside the slices that it is lent.
 mod check;
 mod edit;
+mod field;
 mod improve;
 mod nearest;
 mod outlines;
 mod price;
 mod refusal;
 mod root;
+mod sample;
 mod sheets;
 
 pub mod raw;
 
 pub use check::{Measured, check, work_words};
 pub use edit::{Edited, edit};
-pub use improve::{Field, Improved, improve};
+pub use field::Field;
+pub use improve::{Improved, improve};
 pub use nearest::{NO_CORNER, nearest};
 pub use outlines::{Outlines, outlines};
 pub use price::{Tariff, price};
 pub use refusal::Refusal;
 pub use root::sqrt;
+pub use sample::{Lattice, STEPS, Sampled, node_count, sample, sample_into};
 pub use sheets::{Edition, Sheet, convert_sheet, read_sheet, write_sheet};
