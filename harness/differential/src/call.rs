@@ -27,6 +27,16 @@ pub struct Call {
     pub bounds: [f64; 6],
     /// How many rounds of improving.
     pub rounds: u32,
+    /// How many cells a side a lattice has.
+    pub cells: u32,
+    /// Its nodes, three values each.
+    pub grid: Vec<f64>,
+    /// The field's value at each.
+    pub values: Vec<f64>,
+    /// Its edges that a level crosses, three words each.
+    pub edges: Vec<u32>,
+    /// How many nodes are in the grid, how many values, and how many edges.
+    pub filled: [u32; 3],
     /// The price sheet's upper volumes, in unit cubes.
     pub uppers: Vec<u64>,
     /// The price sheet's prices, one a step.
@@ -75,6 +85,7 @@ impl Call {
             count: [13],
             counts: [14, 15],
             length: [16],
+            filled: [17, 18, 19],
             answer: [7, 8, 9],
             place: [10, 11],
             ..Self::default()
@@ -109,6 +120,12 @@ impl Call {
         same("journal", &self.journal, &wanted.journal)?;
         same("coefficients", &self.coefficients, &wanted.coefficients)?;
         same("powers", &self.powers, &wanted.powers)?;
+        same("levels", &self.levels, &wanted.levels)?;
+        same("bounds", &self.bounds, &wanted.bounds)?;
+        same("filled", &self.filled, &wanted.filled)?;
+        same("grid", &self.grid, &wanted.grid)?;
+        same("values", &self.values, &wanted.values)?;
+        same("edges", &self.edges, &wanted.edges)?;
         same("uppers", &self.uppers, &wanted.uppers)?;
         same("prices", &self.prices, &wanted.prices)?;
         same("probes", &self.probes, &wanted.probes)?;

@@ -18,6 +18,7 @@ pub mod price;
 pub mod questions;
 pub mod random;
 pub mod roots;
+pub mod sampling;
 pub mod sheets;
 pub mod surfaces;
 pub mod vectors;

@@ -125,9 +125,22 @@ fn convert_sheet(text: &[u8], edition: Edition, places: usize) -> Refusal {
     lanovishel::convert_sheet(text, edition, &mut written).unwrap_err()
 }
 
-/// Holds what the three functions for sheets say to one refusal.
-fn all_alike(refusals: [Refusal; 3]) -> Refusal {
-    assert_eq!(refusals, [refusals[0]; 3]);
+/// Why sampling refuses q·x or cells, with so many places in each list.
+fn sample(coefficient: f64, powers: &[u32], cells: u32, places: usize) -> Refusal {
+    let field = Field {
+        coefficients: &[coefficient],
+        powers,
+        levels: [0.0, 1.0],
+        bounds: [-1.0, -1.0, -1.0, 2.0, 1.0, 1.0],
+    };
+    let (mut grid, mut values) = (vec![1.0; places], vec![1.0; places]);
+    let mut edges = vec![1; places];
+    lanovishel::sample_into(&field, cells, &mut grid, &mut values, &mut edges).unwrap_err()
+}
+
+/// Holds what several functions say to one refusal.
+fn all_alike(refusals: &[Refusal]) -> Refusal {
+    assert!(refusals.iter().all(|refusal| *refusal == refusals[0]));
     refusals[0]
 }
 
@@ -152,10 +165,10 @@ fn each_has_its_name() {
         edit(but(|s| s.corners[0] = 1), &[]),
         edit(but(|s| s.labels[0] = 1), &[]),
         edit(pillow(), &[]),
-        improve(tetrahedron(), &[], 1),
+        all_alike(&[improve(tetrahedron(), &[], 1), sample(1.0, &[], 4, 0)]),
         improve(tetrahedron(), &[1, 0, 0], 1_001),
         edit(tetrahedron(), &[1]),
-        all_alike([
+        all_alike(&[
             read_sheet(&FINE[1..], 9),
             write_sheet(&[32_769, 0, 0], 99),
             convert_sheet(&FINE[1..], Edition::First, 99),
@@ -163,11 +176,15 @@ fn each_has_its_name() {
         check(but(|s| s.double(0))),
         check(but(|s| s.remove(3))),
         check(touching()),
-        all_alike([
+        sample(1.0, &[1, 0, 0], 3, 0),
+        all_alike(&[
             read_sheet(FINE, 2),
             write_sheet(&[32_768, 0, 0], 9),
             convert_sheet(FINE, Edition::Second, 9),
+            // A grid of 125 nodes has 375 values.
+            sample(1.0, &[1, 0, 0], 4, 374),
         ]),
+        sample(f64::MAX, &[1, 0, 0], 4, 375),
         convert_sheet(FINE, Edition::First, 9),
         outlines(&tetrahedron(), 32_768),
         outlines(&tetrahedron(), 0),
