@@ -1,6 +1,6 @@
 //! Prints the tables of docs/FIGURES.md:
 //! `cargo run --release -p bench -- [root] [check] [closing] [edit] [improve] [price] [nearest]
-//! [outlines]`.
+//! [outlines] [sample]`.
 //! Each table sets ours and theirs side by side, measured in this one run; where the original's
 //! source was not there, its times are those of doing nothing.
 mod check;
@@ -11,10 +11,11 @@ mod nearest;
 mod outlines;
 mod price;
 mod root;
+mod sample;
 mod table;
 
 /// A table's name and what prints it.
-const TABLES: [(&str, fn()); 8] = [
+const TABLES: [(&str, fn()); 9] = [
     ("root", root::table),
     ("check", check::table),
     ("closing", closing::table),
@@ -23,6 +24,7 @@ const TABLES: [(&str, fn()); 8] = [
     ("price", price::table),
     ("nearest", nearest::table),
     ("outlines", outlines::table),
+    ("sample", sample::table),
 ];
 
 fn main() {
