@@ -141,4 +141,32 @@ uint32_t lanovishel_convert_sheet(const uint8_t *sheet, size_t sheet_bytes, uint
                                   uint8_t *written, size_t written_bytes,
                                   uint64_t count[1]);
 
+/* How many nodes the lattice of so many cells a side has. */
+#define LANOVISHEL_NODES(cells) (((size_t)(cells) + 1) * ((size_t)(cells) + 1) * ((size_t)(cells) + 1))
+
+/* Samples a field on the lattice of a box, with 4 to 128 cells a side. Field sheet, levels and box are those of
+ * lanovishel_improve. Nodes are numbered along x, then y, then z; along each axis, a node that is c cells from the
+ * lower end lies at lower + ((upper - lower) * c) / cells. Its value is the sum, from +0 and in order, of the terms
+ * ((q * x^i) * y^j) * z^k, with the powers 1, v, v * v and (v * v) * v. It is near a finite level where they differ, in
+ * double, by at most 2^-46 of the largest magnitude among all values, the finite levels and 2^-1022. A value near the
+ * lower level is set onto that; then what is near the upper level is set onto this.
+ *
+ * An edge goes from a node by a step i j k along x, y and z: 0 is 1 0 0, 1 is 0 1 0, 2 is 0 0 1, 3 is 1 1 0, 4 is
+ * 1 0 1, 5 is 0 1 1 and 6 is 1 1 1. With n nodes a side it ends at node + i + n * j + n * n * k. A finite level crosses
+ * it where one end is below the level and the other is not. Each edge gets three words of edges for each level that
+ * crosses it: the node, the step, and the label, 0 for the upper level and 1 for the lower; by rising nodes, then steps,
+ * then labels.
+ *
+ * Where the call is accepted, counts has the number of nodes in grid, of nodes in values and of edges; grid has three
+ * values a node, values one, edges three words an edge, and all three lists are 0 behind. Else counts and the three
+ * lists are 0: 13 is for field sheet, levels or box, 34 for the cells, 35 for too short a grid or list of values, 36 for
+ * a value that is not finite, and then 35 for too short a list of edges. */
+uint32_t lanovishel_sample(const double *coefficients, size_t coefficient_count,
+                           const uint32_t *powers, size_t power_count,
+                           const double levels[2], const double bounds[6], uint32_t cells,
+                           double *grid, size_t grid_values,
+                           double *values, size_t value_count,
+                           uint32_t *edges, size_t edge_words,
+                           uint32_t counts[3]);
+
 #endif
