@@ -1,9 +1,9 @@
 -- A call is answered with 0 just where it passes the questions; its counts are then small. Assumes nothing.
 use mathlib.Core.Path.{_≡_, refl, sym, ap, _∙_}
 use mathlib.Core.Logic.{_↔_}
-use mathlib.Core.Bool.{Bool, true, false, _&&_, false≢true}
+use mathlib.Core.Bool.{Bool, true, false, _&&_}
 use mathlib.Core.List.{List}
-use Prim.Native.Nat.{ℕ, suc, _+_, _*_, _≤_, _<_}
+use Prim.Native.Nat.{ℕ, suc, _*_, _≤_}
 use native.Mathlib.Omega.{arith}
 use lib.Dec.{leb}
 use lib.ListN.{length}
@@ -17,8 +17,8 @@ use Rattle.lattice.specs.Sample.{nodes, lowerLevel, upperLevel, rawValue
 use Rattle.lattice.specs.Laws.{Samples}
 use Rattle.lattice.specs.Stages.{nodesIn, edgesIn}
 use Rattle.lattice.specs.declared.Lattice.{Lattice}
-use Rattle.lattice.specs.declared.Lattice.the-variants.{Sampled, Refused}
-use Rattle.lattice.proofs.Places.{cube-small}
+use Rattle.lattice.specs.declared.Lattice.the-variants.{Sampled}
+use Rattle.lattice.proofs.Indices.{cube-small}
 use Rattle.lattice.proofs.Noting.{among-few}
 
 -- 0 is no refusal's number

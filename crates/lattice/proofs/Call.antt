@@ -18,17 +18,17 @@ use Rattle.lattice.specs.Node.{perSide, cube, grid}
 use Rattle.lattice.specs.Values.{ontoLevels}
 use Rattle.lattice.specs.Edges.{crossedEdges, edgeWords}
 use Rattle.lattice.specs.Sample.{nodes, lowerLevel, upperLevel, rawValues, latticeValues, latticeEdges, afterNodes, latticeOf, LatticeCall}
-use Rattle.lattice.specs.Stages.{Fillable, NodesFilled, EdgesNoted, nodesIn, edgesIn, Filled}
+use Rattle.lattice.specs.Stages.{Fillable, NodesFilled, EdgesNoted, nodesIn, edgesIn, FrontsFilled}
 use Rattle.lattice.specs.declared.Lattice.{Lattice}
 use Rattle.lattice.specs.declared.Lattice.the-variants.{Sampled, Refused}
-use Rattle.lattice.proofs.Places.{cube-small}
+use Rattle.lattice.proofs.Indices.{cube-small}
 use Rattle.lattice.proofs.Stores.{front, grid-length}
 use Rattle.lattice.proofs.Noting.{noted-length, noted-same, words-length, among-few}
 
 module _ (qs : List Float) (ns : List ℕ) (levels bounds : List Float) (cells : ℕ) where
   -- a refusal leaves lists of the same lengths
   pub refused : {g₀ v₀ g₁ v₁ : List Float} {e₀ e₁ : List ℕ} (lattice : Lattice) (k : ℕ) → lattice ≡ Refused k → length g₁ ≡ length g₀ → length v₁ ≡ length v₀ → length e₁ ≡ length e₀
-      → Filled lattice qs ns levels bounds cells g₀ v₀ e₀ g₁ v₁ e₁ (Refused k)
+      → FrontsFilled lattice qs ns levels bounds cells g₀ v₀ e₀ g₁ v₁ e₁ (Refused k)
   unfolding edgeWords
   refused lattice k q g v e = record {
     answer = sym q;
@@ -62,7 +62,7 @@ module _ (qs : List Float) (ns : List ℕ) (levels bounds : List Float) (cells :
     grid-same : length g₁ ≡ length g₀
     grid-same = ap length (f .gridFront) ∙ length-sets g₀ 0 (grid bounds cells (nodes cells))
 
-    pub fills-36 : {e₀ : List ℕ} → length v₁ ≡ length v₀ → not b ≡ true → Filled (afterNodes qs ns levels bounds cells (length e₀)) qs ns levels bounds cells g₀ v₀ e₀ g₁ v₁ e₀ (Refused 36)
+    pub fills-36 : {e₀ : List ℕ} → length v₁ ≡ length v₀ → not b ≡ true → FrontsFilled (afterNodes qs ns levels bounds cells (length e₀)) qs ns levels bounds cells g₀ v₀ e₀ g₁ v₁ e₀ (Refused 36)
     fills-36 {e₀} same q = refused _ 36 (not-finite (length e₀) (sym (ap (every isFinite) (f .values)) ∙ failed tested q)) grid-same same refl
 
     module _ (q : not b ≡ false) {v₂ : List Float} (settled : v₂ ≡ ontoLevels (lowerLevel levels) (upperLevel levels) v₁) (kept : length v₂ ≡ length v₀)
@@ -90,13 +90,13 @@ module _ (qs : List Float) (ns : List ℕ) (levels bounds : List Float) (cells :
           let c : cube (perSide cells) ≤ 2146689 = cube-small (perSide cells) (omega arith) in
           omega arith
 
-      pub fills-35 : length e₁ < found * 3 → Filled (afterNodes qs ns levels bounds cells (length e₀)) qs ns levels bounds cells g₀ v₀ e₀ g₁ v₂ e₁ (Refused 35)
+      pub fills-35 : length e₁ < found * 3 → FrontsFilled (afterNodes qs ns levels bounds cells (length e₀)) qs ns levels bounds cells g₀ v₀ e₀ g₁ v₂ e₁ (Refused 35)
       fills-35 h =
           let l = noted-length listed in
           let m = counted in
           refused _ 35 (short (length e₀) finite (omega arith)) grid-same kept l
 
-      pub fills-all : found * 3 ≤ length e₁ → Filled (afterNodes qs ns levels bounds cells (length e₀)) qs ns levels bounds cells g₀ v₀ e₀ g₁ v₂ e₁ (Sampled (length v₂) found)
+      pub fills-all : found * 3 ≤ length e₁ → FrontsFilled (afterNodes qs ns levels bounds cells (length e₀)) qs ns levels bounds cells g₀ v₀ e₀ g₁ v₂ e₁ (Sampled (length v₂) found)
       fills-all h =
           let l : length e₁ ≡ length e₀ = noted-length listed in
           let m : found ≡ length (latticeEdges qs ns levels bounds cells) = counted in
@@ -154,8 +154,8 @@ module _ (qs : List Float) (ns : List ℕ) (levels bounds : List Float) (cells :
 
           -- the front of the values is lent
           pub lent-front : {g₁ v : List Float} {e₁ : List ℕ} {r : Lattice} → nodes cells ≤ length v₀
-              → Filled (afterNodes qs ns levels bounds cells (length e₀)) qs ns levels bounds cells g₀ (take (nodes cells) v₀) e₀ g₁ v e₁ r
-              → Filled lattice qs ns levels bounds cells g₀ v₀ e₀ g₁ (v ++ drop (nodes cells) v₀) e₁ r
+              → FrontsFilled (afterNodes qs ns levels bounds cells (length e₀)) qs ns levels bounds cells g₀ (take (nodes cells) v₀) e₀ g₁ v e₁ r
+              → FrontsFilled lattice qs ns levels bounds cells g₀ v₀ e₀ g₁ (v ++ drop (nodes cells) v₀) e₁ r
           lent-front {g₁} {v} {e₁} {r} h t =
               let f : length (take (nodes cells) v₀) ≡ nodes cells = length-take-le (nodes cells) v₀ h in
               let l : length v ≡ length (take (nodes cells) v₀) = t .valueLength in
@@ -176,7 +176,7 @@ module _ (qs : List Float) (ns : List ℕ) (levels bounds : List Float) (cells :
   -- ---- `sample`: 0 behind the fronts
 
   -- an answer's counts have room
-  pub room : {g₀ v₀ g₁ v₁ : List Float} {e₀ e₁ : List ℕ} {lattice r : Lattice} {n m : ℕ} → Filled lattice qs ns levels bounds cells g₀ v₀ e₀ g₁ v₁ e₁ r → r ≡ Sampled n m
+  pub room : {g₀ v₀ g₁ v₁ : List Float} {e₀ e₁ : List ℕ} {lattice r : Lattice} {n m : ℕ} → FrontsFilled lattice qs ns levels bounds cells g₀ v₀ e₀ g₁ v₁ e₁ r → r ≡ Sampled n m
       → (n * 3 ≤ length g₁) × (n ≤ length v₁) × (m * 3 ≤ length e₁)
   room {g₀} {v₀} {g₁} {v₁} {e₀} {e₁} {lattice} {r} {n} {m} f s =
       let g : n * 3 ≤ length g₀ = subst (λ (q : Lattice). nodesIn q * 3 ≤ length g₀) s (f .gridPlaces) in
@@ -185,11 +185,11 @@ module _ (qs : List Float) (ns : List ℕ) (levels bounds : List Float) (cells :
       (omega (arith, f .gridLength), omega (arith, f .valueLength), omega (arith, f .edgeLength))
 
   pub called : {g₀ v₀ g₁ v₁ g₂ v₂ : List Float} {e₀ e₁ e₂ : List ℕ} {r q : Lattice}
-      → Filled (latticeOf qs ns levels bounds cells (length g₀) (length v₀) (length e₀)) qs ns levels bounds cells g₀ v₀ e₀ g₁ v₁ e₁ r → r ≡ q
+      → FrontsFilled (latticeOf qs ns levels bounds cells (length g₀) (length v₀) (length e₀)) qs ns levels bounds cells g₀ v₀ e₀ g₁ v₁ e₁ r → r ≡ q
       → g₂ ≡ blank plusZero g₁ (nodesIn q * 3) → v₂ ≡ blank plusZero v₁ (nodesIn q) → e₂ ≡ blank 0 e₁ (edgesIn q * 3)
       → LatticeCall qs ns levels bounds cells g₀ v₀ e₀ g₂ v₂ e₂ q
   called {g₀} {v₀} {g₁} {v₁} {g₂} {v₂} {e₀} {e₁} {e₂} {r} {q} t s g v e =
-      let f = subst (Filled (latticeOf qs ns levels bounds cells (length g₀) (length v₀) (length e₀)) qs ns levels bounds cells g₀ v₀ e₀ g₁ v₁ e₁) s t in
+      let f = subst (FrontsFilled (latticeOf qs ns levels bounds cells (length g₀) (length v₀) (length e₀)) qs ns levels bounds cells g₀ v₀ e₀ g₁ v₁ e₁) s t in
       record {
         answer = f .answer;
         grid-list = g ∙ behind plusZero g₀ g₁ (nodesIn q * 3) (f .gridLength) (f .gridPlaces) (f .gridFront);

@@ -11,7 +11,7 @@ use lib.Ieee as Ieee
 use lib.Ieee.{Float, nan}
 use Rattle.float.specs.Point.{less}
 use Rattle.float.specs.Order.{greater, isFinite}
-use Rattle.lattice.specs.Values.{leastNormal, magnitude, largest, withLevel, valueScale, near?, onto}
+use Rattle.lattice.specs.Values.{leastNormal, magnitude, largest, withLevel, valueScale, nearLevel?, onto}
 use Rattle.lattice.specs.Edges.{crossedBy}
 
 chosen : {A : Type 0} {b : Bool} (x y : A) (k : Bool) → b ≡ k → cond k x y ≡ cond b x y
@@ -25,16 +25,16 @@ pub with-none : (s level : Float) → isFinite level ≡ false → s ≡ withLev
 unfolding withLevel
 with-none s level f = chosen (greater s (magnitude level)) s false f
 
-pub near-test : (t level v m : Float) → m ≡ magnitude (less v level) → Ieee.le m t ≡ true → isFinite level ≡ near? t level v
-unfolding near?
+pub near-test : (t level v m : Float) → m ≡ magnitude (less v level) → Ieee.le m t ≡ true → isFinite level ≡ nearLevel? t level v
+unfolding nearLevel?
 near-test t level v m e g = sym (ap (λ (b : Bool). isFinite level && b) (ap (λ (x : Float). Ieee.le x t) (sym e) ∙ g) ∙ and-true (isFinite level))
 
-pub near-none : (t level v m : Float) → m ≡ magnitude (less v level) → Ieee.le m t ≡ false → false ≡ near? t level v
-unfolding near?
+pub near-none : (t level v m : Float) → m ≡ magnitude (less v level) → Ieee.le m t ≡ false → false ≡ nearLevel? t level v
+unfolding nearLevel?
 near-none t level v m e g = sym (ap (λ (b : Bool). isFinite level && b) (ap (λ (x : Float). Ieee.le x t) (sym e) ∙ g) ∙ and-false (isFinite level))
 
 -- a level tested and then taken or not
-pub onto-test : (t level v : Float) (b : Bool) → b ≡ near? t level v → (k : Bool) → b ≡ k → cond k level v ≡ onto t level v
+pub onto-test : (t level v : Float) (b : Bool) → b ≡ nearLevel? t level v → (k : Bool) → b ≡ k → cond k level v ≡ onto t level v
 unfolding onto
 onto-test t level v b e k g = chosen level v k (sym e ∙ g)
 

@@ -13,9 +13,9 @@ use Rattle.field.specs.Sheet.{value}
 use Rattle.lattice.specs.Node.{perSide, nodeAt, node, grid}
 use Rattle.lattice.specs.Values.{sampled}
 use Rattle.lattice.specs.Sample.{nodes, rawValues, latticeValues}
-use Rattle.lattice.specs.Stages.{placeOf, following, Placeable, Fillable, NodesFilled}
-use Rattle.lattice.specs.declared.nodes.Place.{Place}
-use Rattle.lattice.proofs.Places.{first-place, node-placed, next-place}
+use Rattle.lattice.specs.Stages.{indexOf, nextIndex, InLattice, Fillable, NodesFilled}
+use Rattle.lattice.specs.declared.nodes.Index.{Index}
+use Rattle.lattice.proofs.Indices.{first-index, node-inside, next-index}
 
 module _ {A : Type 0} where
   pub sets-append : (l : List A) (i : ℕ) (vs ws : List A) → sets (sets l i vs) (i + length vs) ws ≡ sets l i (vs ++ ws)
@@ -43,8 +43,8 @@ module _ {A : Type 0} where
 
 -- ---- the grid and the values, a node a turn
 
-pub node-there : (bounds : List Float) (cells k : ℕ) (q : Place) (p : Point) → q ≡ placeOf (perSide cells) k → p ≡ nodeAt bounds cells (q .x) (q .y) (q .z) → p ≡ node bounds cells k
-node-there bounds cells k q p e f = f ∙ ap (λ (r : Place). nodeAt bounds cells (r .x) (r .y) (r .z)) e
+pub node-there : (bounds : List Float) (cells k : ℕ) (q : Index) (p : Point) → q ≡ indexOf (perSide cells) k → p ≡ nodeAt bounds cells (q .x) (q .y) (q .z) → p ≡ node bounds cells k
+node-there bounds cells k q p e f = f ∙ ap (λ (r : Index). nodeAt bounds cells (r .x) (r .y) (r .z)) e
 
 pub grid-length : (bounds : List Float) (cells k : ℕ) → length (grid bounds cells k) ≡ k * 3
 unfolding grid
@@ -92,13 +92,13 @@ pub values-length : (qs : List Float) (ns : List ℕ) (levels bounds : List Floa
 unfolding latticeValues
 values-length qs ns levels bounds cells = length-map (rawValues qs ns bounds cells) _ ∙ sampled-length qs ns bounds cells (nodes cells)
 
--- ---- the loop over nodes: the grid and the values have the nodes so far, and the place is that of the next
+-- ---- the loop over nodes: the grid and the values have the nodes so far, and the index is that of the next
 
-pub record Filling (qs : List Float) (ns : List ℕ) (bounds : List Float) (cells : ℕ) (g₀ v₀ : List Float) (p : Place) (g v : List Float) (a : ℕ) : Type 0 where
+pub record Filling (qs : List Float) (ns : List ℕ) (bounds : List Float) (cells : ℕ) (g₀ v₀ : List Float) (p : Index) (g v : List Float) (a : ℕ) : Type 0 where
   pub few : a ≤ length v₀
   pub gridLength : length g ≡ length g₀
   pub valueLength : length v ≡ length v₀
-  pub place : p ≡ placeOf (perSide cells) a
+  pub index : p ≡ indexOf (perSide cells) a
   pub gridFront : g ≡ sets g₀ 0 (grid bounds cells a)
   pub valueFront : v ≡ sets v₀ 0 (sampled qs ns bounds cells a)
 
@@ -108,30 +108,30 @@ module _ (qs : List Float) (ns : List ℕ) (bounds : List Float) (cells : ℕ) (
     few = omega arith;
     gridLength = refl;
     valueLength = refl;
-    place = first-place (perSide cells);
+    index = first-index (perSide cells);
     gridFront = grid-none bounds cells g₀;
     valueFront = sampled-none qs ns bounds cells v₀;
   }
 
-  module _ {p : Place} {g v : List Float} {a : ℕ} (f : Filling qs ns bounds cells g₀ v₀ p g v a) where
-    -- a turn begins at a place of the lattice
-    pub filling-placed : a < length v → Placeable (perSide cells) p
-    filling-placed h =
+  module _ {p : Index} {g v : List Float} {a : ℕ} (f : Filling qs ns bounds cells g₀ v₀ p g v a) where
+    -- a turn begins inside the lattice
+    pub filling-inside : a < length v → InLattice (perSide cells) p
+    filling-inside h =
         let s = f .valueLength in
         let n = fits .valuePlaces in
         let k = fits .few in
-        subst (Placeable (perSide cells)) (sym (f .place)) (node-placed (perSide cells) a (omega arith) (omega arith) (omega arith))
+        subst (InLattice (perSide cells)) (sym (f .index)) (node-inside (perSide cells) a (omega arith) (omega arith) (omega arith))
 
-    pub filling-turn : a < length v → (r : Point) (w : Float) (q : Place) → r ≡ nodeAt bounds cells (p .x) (p .y) (p .z) → w ≡ value qs ns r → q ≡ following (perSide cells) p
+    pub filling-turn : a < length v → (r : Point) (w : Float) (q : Index) → r ≡ nodeAt bounds cells (p .x) (p .y) (p .z) → w ≡ value qs ns r → q ≡ nextIndex (perSide cells) p
         → Filling qs ns bounds cells g₀ v₀ q (set (set (set g (a * 3) (r .x)) (a * 3 + 1) (r .y)) (a * 3 + 2) (r .z)) (set v a w) (a + 1)
     filling-turn h r w q er ew eq =
         let s = f .valueLength in
-        let n = node-there bounds cells a p r (f .place) er in
+        let n = node-there bounds cells a p r (f .index) er in
         record {
           few = omega arith;
           gridLength = simp length-set (f .gridLength);
           valueLength = simp length-set (f .valueLength);
-          place = eq ∙ ap (following (perSide cells)) (f .place) ∙ next-place (perSide cells) a (omega arith);
+          index = eq ∙ ap (nextIndex (perSide cells)) (f .index) ∙ next-index (perSide cells) a (omega arith);
           gridFront = grid-step bounds cells a g₀ g r (f .gridFront) n;
           valueFront = sampled-step qs ns bounds cells a v₀ v r w (f .valueFront) n ew;
         }

@@ -1,4 +1,4 @@
--- What is shown of sampling (document 02, F-2): the list of crossed edges holds every one of them exactly once and no other, and rises by node, step and label (`lattice-listed` of `proofs/Listed`); a call is answered with 0 just where it passes the questions (`zero-means` of `proofs/Answers`). Definitions only.
+-- What is shown of sampling (document 02, F-2): the list of crossed edges holds every one of them exactly once and no other, and rises by node, step and label (`lattice-listed` of `proofs/Listed`); its steps end where they say (`step-laws` of `proofs/Indices`); a call is answered with 0 just where it passes the questions (`zero-means` of `proofs/Answers`). Definitions only.
 use Prim.Native.Nat.{ℕ, _+_, _*_, _<_, _≤_}
 use mathlib.Core.Path.{_≡_}
 use mathlib.Core.Logic.{_⊎_}
@@ -11,7 +11,7 @@ use lib.Ieee.{Float}
 use Rattle.float.specs.Order.{isFinite}
 use Rattle.field.specs.Valid.{every, sheetOk}
 use Rattle.lattice.specs.Node.{cube, alongX, alongY, alongZ}
-use Rattle.lattice.specs.Edges.{Edge, stepX, stepY, stepZ, stepEnd, levelOf, valueAt}
+use Rattle.lattice.specs.Edges.{Edge, stepX, stepY, stepZ, staysInside, stepEnd, levelOf, valueAt}
 use Rattle.lattice.specs.Sample.{nodes, rawValues, latticeEdges}
 
 -- an edge that stays in the lattice, whose label's level is finite, above the value at one end and not above that at the other
@@ -45,6 +45,13 @@ pub record ListsCrossed (n : ℕ) (lower upper : Float) (values : List Float) (e
   pub once : (e : Edge) → CrossedEdge n lower upper values e → timesListed e es ≡ 1
   pub no-other : (e : Edge) → (CrossedEdge n lower upper values e → ⊥) → timesListed e es ≡ 0
   pub rising : (i j : ℕ) → i < j → j < length es → EdgeBefore (getD es i noEdge) (getD es j noEdge)
+
+-- a step that stays in the lattice ends at a node, whose index is further along x, y and z by what the step adds
+pub record StepLaws : Type 0 where
+  pub at-node : (n a d : ℕ) → staysInside n a d ≡ true → stepEnd n a d < cube n
+  pub further-x : (n a d : ℕ) → staysInside n a d ≡ true → alongX n (stepEnd n a d) ≡ alongX n a + stepX d
+  pub further-y : (n a d : ℕ) → staysInside n a d ≡ true → alongY n (stepEnd n a d) ≡ alongY n a + stepY d
+  pub further-z : (n a d : ℕ) → staysInside n a d ≡ true → alongZ n (stepEnd n a d) ≡ alongZ n a + stepZ d
 
 -- a call that passes the questions
 pub record Samples (qs : List Float) (ns : List ℕ) (levels bounds : List Float) (cells gridPlaces valuePlaces edgePlaces : ℕ) : Type 0 where

@@ -15,7 +15,7 @@ perSide cells = cells + 1
 abbrev pub cube : ℕ → ℕ
 cube n = n * n * n
 
--- how many nodes along x, y and z from the first node a stands, with n to a side
+-- the index of node a along x, y and z, with n nodes to a side
 abbrev pub alongX : ℕ → ℕ → ℕ
 alongX n a = a % n
 
@@ -29,7 +29,7 @@ alongZ n a = a / (n * n)
 abbrev pub coordinate : Float → Float → ℕ → ℕ → Float
 coordinate lower upper c cells = plus lower (Ieee.div binary64 (times (less upper lower) (counted c)) (counted cells))
 
--- the point so many nodes along x, y and z; the bounds are the lower x, y, z, then the upper x, y, z
+-- the node of an index; the bounds are the lower x, y, z, then the upper x, y, z
 abbrev pub nodeAt : List Float → ℕ → (x y z : ℕ) → Point
 nodeAt bounds cells x y z = record {
   x = coordinate (getD bounds 0 nan) (getD bounds 3 nan) x cells;

@@ -1,4 +1,4 @@
--- What the functions of `lattice` are handed and what they leave: places of nodes, the fronts of the lists, edges noted one after the other. Definitions only.
+-- What the functions of `lattice` are handed and what they leave: indices of nodes, the fronts of the lists, edges noted one after the other. Definitions only.
 use Prim.Native.Nat.{ℕ, _+_, _*_, _≤_, _<_}
 use mathlib.Core.Path.{_≡_}
 use mathlib.Core.Bool.{cond}
@@ -12,32 +12,32 @@ use Rattle.lattice.specs.Edges.{Edge, staysInside, stepEnd, edgeWords}
 use Rattle.lattice.specs.Sample.{nodes, rawValues, latticeValues, latticeEdges, whenSampled}
 use Rattle.lattice.specs.declared.Lattice.{Lattice}
 use Rattle.lattice.specs.declared.Lattice.the-variants.{Sampled, Refused}
-use Rattle.lattice.specs.declared.nodes.Place.{Place}
+use Rattle.lattice.specs.declared.nodes.Index.{Index}
 
--- ---- places
+-- ---- indices
 
-abbrev pub placeOf : ℕ → ℕ → Place
-placeOf n a = record { x = alongX n a; y = alongY n a; z = alongZ n a }
+abbrev pub indexOf : ℕ → ℕ → Index
+indexOf n a = record { x = alongX n a; y = alongY n a; z = alongZ n a }
 
--- the place after p, with n nodes to a side
-abbrev pub following : ℕ → Place → Place
-following n p =
+-- the index after p, with n nodes to a side
+abbrev pub nextIndex : ℕ → Index → Index
+nextIndex n p =
     cond (ltb (p .x + 1) n) (record { x = p .x + 1; y = p .y; z = p .z })
     (cond (ltb (p .y + 1) n) (record { x = 0; y = p .y + 1; z = p .z }) (record { x = 0; y = 0; z = p .z + 1 }))
 
--- a place of the lattice, of 1 to 129 nodes to a side
-pub record Placeable (n : ℕ) (p : Place) : Type 0 where
+-- an index of the lattice, of 1 to 129 nodes to a side
+pub record InLattice (n : ℕ) (p : Index) : Type 0 where
   pub few : n ≤ 129
   pub x : p .x < n
   pub y : p .y < n
   pub z : p .z < n
 
--- node a stands at p
-pub record Standing (n a : ℕ) (p : Place) : Type 0 where
+-- node a has the index p
+pub record AtNode (n a : ℕ) (p : Index) : Type 0 where
   pub some : 1 ≤ n
   pub few : n ≤ 129
   pub inside : a < cube n
-  pub place : p ≡ placeOf n a
+  pub index : p ≡ indexOf n a
 
 -- ---- nodes and values
 
@@ -74,7 +74,7 @@ edgesIn (Sampled nodes edges) = edges
 edgesIn (Refused number) = 0
 
 -- the answer is `lattice`, and the fronts of the lists have what it counts
-pub record Filled (lattice : Lattice) (qs : List Float) (ns : List ℕ) (levels bounds : List Float) (cells : ℕ) (grid₀ values₀ : List Float) (edges₀ : List ℕ) (grid₁ values₁ : List Float) (edges₁ : List ℕ) (r : Lattice) : Type 0 where
+pub record FrontsFilled (lattice : Lattice) (qs : List Float) (ns : List ℕ) (levels bounds : List Float) (cells : ℕ) (grid₀ values₀ : List Float) (edges₀ : List ℕ) (grid₁ values₁ : List Float) (edges₁ : List ℕ) (r : Lattice) : Type 0 where
   pub answer : r ≡ lattice
   pub gridLength : length grid₁ ≡ length grid₀
   pub valueLength : length values₁ ≡ length values₀

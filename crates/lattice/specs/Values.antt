@@ -51,14 +51,14 @@ abbrev pub tolerance : Float → Float
 tolerance scale = times (times sixtyFour epsilon) scale
 
 -- a value is within t of a finite level
-unfoldable pub near? : Float → Float → Float → Bool
+unfoldable pub nearLevel? : Float → Float → Float → Bool
 unfolding magnitude isFinite
-near? t level v = isFinite level && Ieee.le (magnitude (less v level)) t
+nearLevel? t level v = isFinite level && Ieee.le (magnitude (less v level)) t
 
 -- it is then set onto the level
 unfoldable pub onto : Float → Float → Float → Float
-unfolding near?
-onto t level v = cond (near? t level v) level v
+unfolding nearLevel?
+onto t level v = cond (nearLevel? t level v) level v
 
 -- onto the lower level first; the upper one is compared with the value as that left it
 abbrev pub ontoBoth : Float → Float → Float → Float → Float

@@ -1,5 +1,5 @@
 // The list of the lattice edges that a level crosses: by node, step and label.
-use crate::nodes::Place;
+use crate::nodes::Index;
 use crate::nodes::next;
 ghost use mathlib.Core.Path.{_≡_};
 ghost use Prim.Native.Nat.{_+_, _*_, _≤_, _<_};
@@ -8,7 +8,7 @@ ghost use mathlib.Core.List.{[], _∷_};
 ghost use lib.ListN.{length, set};
 ghost use Rattle.lattice.specs.Node as Node;
 ghost use Rattle.lattice.specs.Edges as Edges;
-ghost use Rattle.lattice.specs.Stages.{endOrStart, Standing, EdgesNoted};
+ghost use Rattle.lattice.specs.Stages.{endOrStart, AtNode, EdgesNoted};
 
 // What the seven steps add along x, y and z.
 fn step_x(d: usize) -> usize
@@ -79,10 +79,10 @@ fn note(
     count + 1
 }
 
-// The node where the step d from node a, which stands at p, ends. Where it leaves the lattice it is a itself: no level
+// The node where the step d from node a of index p ends. Where it leaves the lattice it is a itself: no level
 // crosses an edge from a node to itself.
-fn step_end(n: usize, a: usize, p: Place, d: usize) -> usize
-    requires { ⌜ (Standing n a p) × (d < 7) ⌝ }
+fn step_end(n: usize, a: usize, p: Index, d: usize) -> usize
+    requires { ⌜ (AtNode n a p) × (d < 7) ⌝ }
     ensures { λ r. ⌜ r ≡ endOrStart n a d ⌝ }
 {
     let x = step_x(d);
@@ -100,19 +100,19 @@ fn step_end(n: usize, a: usize, p: Place, d: usize) -> usize
     a + (x + n * y + n * n * z)
 }
 
-// The edges from node a, which stands at p, by the step d: label 0 is the upper level, 1 the lower.
+// The edges from node a of index p by the step d: label 0 is the upper level, 1 the lower.
 fn note_step(
     values: &[f64],
     lower: f64,
     upper: f64,
     n: usize,
     a: usize,
-    p: Place,
+    p: Index,
     d: usize,
     count: usize,
     list: &mut [u32],
 ) -> usize
-    requires { ⌜ (length (now values) ≡ Node.cube n) × (Standing n a p) × (d < 7) × (count ≤ a * 14 + d * 2) ⌝ }
+    requires { ⌜ (length (now values) ≡ Node.cube n) × (AtNode n a p) × (d < 7) × (count ≤ a * 14 + d * 2) ⌝ }
     ensures { λ r. ⌜ EdgesNoted (Edges.crossedAmong n lower upper (now (values .entry)) (a * 14 + d * 2) 2) count (now (list .entry)) r (now (list .exit)) ⌝ }
 {
     let b = step_end(n, a, p, d);
@@ -122,18 +122,18 @@ fn note_step(
     note(lower, v, w, a, d, 1, more, list)
 }
 
-// The edges from node a, which stands at p.
+// The edges from node a of index p.
 fn note_node(
     values: &[f64],
     lower: f64,
     upper: f64,
     n: usize,
     a: usize,
-    p: Place,
+    p: Index,
     count: usize,
     list: &mut [u32],
 ) -> usize
-    requires { ⌜ (length (now values) ≡ Node.cube n) × (Standing n a p) × (count ≤ a * 14) ⌝ }
+    requires { ⌜ (length (now values) ≡ Node.cube n) × (AtNode n a p) × (count ≤ a * 14) ⌝ }
     ensures { λ r. ⌜ EdgesNoted (Edges.crossedAmong n lower upper (now (values .entry)) (a * 14) 14) count (now (list .entry)) r (now (list .exit)) ⌝ }
 {
     let mut found = count;
@@ -151,11 +151,11 @@ pub fn note_edges(values: &[f64], lower: f64, upper: f64, n: usize, list: &mut [
     ensures { λ r. ⌜ EdgesNoted (Edges.crossedEdges n lower upper (now (values .entry))) 0 (now (list .entry)) r (now (list .exit)) ⌝ }
 {
     let mut found: usize = 0;
-    let mut place = Place { x: 0, y: 0, z: 0 };
+    let mut index = Index { x: 0, y: 0, z: 0 };
     let mut a: usize = 0;
     while a < values.len() {
-        found = note_node(values, lower, upper, n, a, place, found, list);
-        place = next(n, place);
+        found = note_node(values, lower, upper, n, a, index, found, list);
+        index = next(n, index);
         a += 1;
     }
     found

@@ -40,7 +40,7 @@ fn with_level(s: f64, level: f64) -> f64
 
 // Whether a value is within t of a finite level.
 fn near(t: f64, level: f64, v: f64) -> bool
-    ensures { λ r. ⌜ r ≡ Values.near? t level v ⌝ }
+    ensures { λ r. ⌜ r ≡ Values.nearLevel? t level v ⌝ }
 {
     if magnitude(v - level) <= t {
         return float::is_finite(level);

@@ -3,35 +3,35 @@ use float::Point;
 ghost use mathlib.Core.Path.{_≡_};
 ghost use Prim.Native.Nat.{_<_};
 ghost use Rattle.lattice.specs.Node as Node;
-ghost use Rattle.lattice.specs.Stages.{following, Placeable, Fillable, NodesFilled};
+ghost use Rattle.lattice.specs.Stages.{nextIndex, InLattice, Fillable, NodesFilled};
 
-// Where a node stands: how many nodes along x, y and z from the first.
-pub struct Place {
+// A node's index along x, y and z.
+pub struct Index {
     pub x: usize,
     pub y: usize,
     pub z: usize,
 }
 
-// The place of the next node.
-pub fn next(n: usize, p: Place) -> Place
-    requires { ⌜ Placeable n p ⌝ }
-    ensures { λ r. ⌜ r ≡ following n p ⌝ }
+// The index of the next node.
+pub fn next(n: usize, p: Index) -> Index
+    requires { ⌜ InLattice n p ⌝ }
+    ensures { λ r. ⌜ r ≡ nextIndex n p ⌝ }
 {
     if p.x + 1 < n {
-        return Place {
+        return Index {
             x: p.x + 1,
             y: p.y,
             z: p.z,
         };
     }
     if p.y + 1 < n {
-        return Place {
+        return Index {
             x: 0,
             y: p.y + 1,
             z: p.z,
         };
     }
-    Place {
+    Index {
         x: 0,
         y: 0,
         z: p.z + 1,
@@ -45,8 +45,8 @@ fn coordinate(lower: f64, upper: f64, c: u32, cells: u32) -> f64
     lower + (upper - lower) * (c as f64) / (cells as f64)
 }
 
-// The node at a place.
-fn node(bounds: &[f64; 6], cells: u32, p: Place) -> Point
+// The node of an index.
+fn node(bounds: &[f64; 6], cells: u32, p: Index) -> Point
     requires { ⌜ (p .x < 4294967296) × (p .y < 4294967296) × (p .z < 4294967296) ⌝ }
     ensures { λ r. ⌜ r ≡ Node.nodeAt (now (bounds .entry)) cells (p .x) (p .y) (p .z) ⌝ }
 {
@@ -70,15 +70,15 @@ pub fn fill_nodes(
     ensures { λ _. ⌜ NodesFilled (now (coefficients .entry)) (now (powers .entry)) (now (bounds .entry)) cells (now (grid .entry)) (now (grid .exit)) (now (values .entry)) (now (values .exit)) ⌝ }
 {
     let n = cells as usize + 1;
-    let mut place = Place { x: 0, y: 0, z: 0 };
+    let mut index = Index { x: 0, y: 0, z: 0 };
     let mut a: usize = 0;
     while a < values.len() {
-        let p = node(bounds, cells, place);
+        let p = node(bounds, cells, index);
         grid[a * 3] = p.x;
         grid[a * 3 + 1] = p.y;
         grid[a * 3 + 2] = p.z;
         values[a] = field::value(coefficients, powers, p);
-        place = next(n, place);
+        index = next(n, index);
         a += 1;
     }
 }

@@ -4,7 +4,7 @@ use Prim.Native.Nat.{_+_}
 use native.Mathlib.Omega.{arith}
 use lib.Seq.{length-take-le}
 use Rattle.field.proofs.Checks.{failed, held}
-use Rattle.lattice.proofs.Places.{square-small, cube-small}
+use Rattle.lattice.proofs.Indices.{square-small, cube-small}
 use Rattle.lattice.proofs.Call.{refused, refused-13, too-few, too-many, short-grid, short-values, lent-front}
 use borrow.Author.Needs.{needs}
 use Rattle.lattice.proofs.ask_and_fill.Statement.{statement}

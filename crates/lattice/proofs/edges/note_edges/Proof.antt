@@ -5,27 +5,27 @@ use native.Mathlib.Omega.{arith}
 use lib.ListN.{length}
 use Rattle.lattice.specs.Node.{cube}
 use Rattle.lattice.specs.Edges.{crossedAmong}
-use Rattle.lattice.specs.Stages.{placeOf, following, Standing, EdgesNoted}
-use Rattle.lattice.proofs.Places.{first-place, next-place, standing-placed}
+use Rattle.lattice.specs.Stages.{indexOf, nextIndex, AtNode, EdgesNoted}
+use Rattle.lattice.proofs.Indices.{first-index, next-index, at-node-inside}
 use Rattle.lattice.proofs.Noting.{noted-nothing, noted-length, noted-more, noted-same, among-few, among-node, among-none}
 use borrow.Author.Needs.{needs}
 use Rattle.lattice.proofs.edges.note_edges.Statement.{statement}
 use Rattle.lattice.proofs.edges.note_edges.Tie as tie
 
 abbrev Inv-loop : tie.InvT-loop
-Inv-loop values lower upper n list₀ found₀ place₀ a₀ list found place a = (a ≤ length values) × (place ≡ placeOf n a) × EdgesNoted (crossedAmong n lower upper values 0 (a * 14)) 0 list₀ found list
+Inv-loop values lower upper n list₀ found₀ index₀ a₀ list found index a = (a ≤ length values) × (index ≡ indexOf n a) × EdgesNoted (crossedAmong n lower upper values 0 (a * 14)) 0 list₀ found list
 
 abbrev μ-loop : tie.MeasureT-loop
-μ-loop values lower upper n list₀ found₀ place₀ a₀ list found place a = length values - a
+μ-loop values lower upper n list₀ found₀ index₀ a₀ list found index a = length values - a
 
 -- the node of a turn
-here : (l : tie.In-loop Inv-loop μ-loop) → Standing (l .before .before .before .before .args .n) (l .before .loop .a) (l .before .loop .place)
+here : (l : tie.In-loop Inv-loop μ-loop) → AtNode (l .before .before .before .before .args .n) (l .before .loop .a) (l .before .loop .index)
 here l =
     let p = l .before .before .before .before .pre in
-    record { some = p .0; few = p .1; inside = omega (arith, p .2); place = l .before .loop .inv .1 }
+    record { some = p .0; few = p .1; inside = omega (arith, p .2); index = l .before .loop .inv .1 }
 
 loop-holds : tie.Need-loop-holds Inv-loop μ-loop
-loop-holds c = (omega arith, first-place _, noted-same (among-none _ _ _ _ _) (noted-nothing _ _))
+loop-holds c = (omega arith, first-index _, noted-same (among-none _ _ _ _ _) (noted-nothing _ _))
 
 note-node-requires : tie.Need-note-node-requires Inv-loop μ-loop
 note-node-requires c κs =
@@ -37,7 +37,7 @@ note-node-requires c κs =
     (s .pre .2, here (c .before), omega arith)
 
 next-requires : tie.Need-next-requires Inv-loop μ-loop
-next-requires c κs = standing-placed (here (c .before .before .before .before))
+next-requires c κs = at-node-inside (here (c .before .before .before .before))
 
 add-a : tie.Need-add-a Inv-loop μ-loop
 add-a c = search needs
@@ -52,7 +52,7 @@ loop-again c =
     let s = m .before .before .before .before .before .before in
     let a = s .args in (
       omega arith,
-      c .next .ensures ∙ ap (following (a .n)) (l .inv .1) ∙ next-place (a .n) (l .a) (s .pre .0),
+      c .next .ensures ∙ ap (nextIndex (a .n)) (l .inv .1) ∙ next-index (a .n) (l .a) (s .pre .0),
       noted-same (among-node (a .n) (a .lower) (a .upper) (a .values .now) (l .a)) (noted-more (l .inv .2) (m .note-node .ensures)),
     )
 

@@ -4,7 +4,7 @@ use Prim.Native.Nat.{_<_, _≤_}
 use native.Mathlib.Omega.{arith}
 use lib.ListN.{length}
 use Rattle.lattice.specs.Edges.{valueAt}
-use Rattle.lattice.proofs.Places.{cube-small, end-or-start-inside}
+use Rattle.lattice.proofs.Indices.{cube-small, end-or-start-inside}
 use Rattle.lattice.proofs.Noting.{noted-more, noted-same, by-labels}
 use borrow.Author.Needs.{needs}
 use Rattle.lattice.proofs.edges.note_step.Statement.{statement}

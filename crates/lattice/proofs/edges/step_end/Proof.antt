@@ -1,7 +1,7 @@
 -- `lattice::edges::step_end` meets its contract. Assumes nothing.
 use native.Mathlib.Omega.{arith}
-use Rattle.lattice.specs.Stages.{Placeable}
-use Rattle.lattice.proofs.Places.{Small, small, cube-small, standing-placed, off-x, off-y, off-z, stays}
+use Rattle.lattice.specs.Stages.{InLattice}
+use Rattle.lattice.proofs.Indices.{Small, small, cube-small, at-node-inside, off-x, off-y, off-z, stays}
 use borrow.Author.Needs.{needs}
 use Rattle.lattice.proofs.edges.step_end.Statement.{statement}
 use Rattle.lattice.proofs.edges.step_end.Tie as tie
@@ -14,8 +14,8 @@ sizes : (c : tie.After-step-z) → Small (start c .args .n) (c .before .before .
 sizes c = small (start c .args .n) (start c .args .d) _ _ _ (start c .pre .0 .few) (c .before .before .step-x .ensures) (c .before .step-y .ensures) (c .step-z .ensures)
 
 -- and so is what it is added to
-place : (c : tie.After-step-z) → Placeable (start c .args .n) (start c .args .p)
-place c = standing-placed (start c .pre .0)
+index : (c : tie.After-step-z) → InLattice (start c .args .n) (start c .args .p)
+index c = at-node-inside (start c .pre .0)
 
 step-x-requires : tie.Need-step-x-requires
 step-x-requires c κs = search needs
@@ -27,7 +27,7 @@ step-z-requires : tie.Need-step-z-requires
 step-z-requires c κs = search needs
 
 add-if1 : tie.Need-add-if1
-add-if1 c = let s = sizes (c .before) in let p = place (c .before) in omega arith
+add-if1 c = let s = sizes (c .before) in let p = index (c .before) in omega arith
 
 returns : tie.Need-returns
 returns c =
@@ -36,7 +36,7 @@ returns c =
     off-x (s .args .n) (s .args .a) (s .args .d) (s .args .p) (s .pre .0) _ _ _ (z .before .before .step-x .ensures) (z .before .step-y .ensures) (z .step-z .ensures) (c .if1 .taken)
 
 add-if2 : tie.Need-add-if2
-add-if2 c = let s = sizes (c .before .before .before) in let p = place (c .before .before .before) in omega arith
+add-if2 c = let s = sizes (c .before .before .before) in let p = index (c .before .before .before) in omega arith
 
 returns-2 : tie.Need-returns-2
 returns-2 c =
@@ -45,7 +45,7 @@ returns-2 c =
     off-y (s .args .n) (s .args .a) (s .args .d) (s .args .p) (s .pre .0) _ _ _ (z .before .before .step-x .ensures) (z .before .step-y .ensures) (z .step-z .ensures) (c .if2 .taken)
 
 add-if3 : tie.Need-add-if3
-add-if3 c = let s = sizes (c .before .before .before .before .before) in let p = place (c .before .before .before .before .before) in omega arith
+add-if3 c = let s = sizes (c .before .before .before .before .before) in let p = index (c .before .before .before .before .before) in omega arith
 
 returns-3 : tie.Need-returns-3
 returns-3 c =

@@ -2,7 +2,6 @@
 use mathlib.Core.Path.{_≡_, ap, _∙_}
 use mathlib.Core.Bool.{true, false}
 use mathlib.Core.Logic.{⊎-elim}
-use lib.Ieee.{Float}
 use Rattle.lattice.specs.Values.{onto}
 use Rattle.lattice.proofs.Choices.{onto-test}
 use borrow.Author.Needs.{needs}

@@ -2,16 +2,16 @@
 use Prim.Native.Nat.{_-_}
 use native.Mathlib.Omega.{arith}
 use lib.ListN.{length, length-set}
-use Rattle.lattice.proofs.Stores.{Filling, filling-starts, filling-placed, filling-turn, filling-ends}
+use Rattle.lattice.proofs.Stores.{Filling, filling-starts, filling-inside, filling-turn, filling-ends}
 use borrow.Author.Needs.{needs}
 use Rattle.lattice.proofs.nodes.fill_nodes.Statement.{statement}
 use Rattle.lattice.proofs.nodes.fill_nodes.Tie as tie
 
 abbrev Inv-loop : tie.InvT-loop
-Inv-loop coefficients powers bounds cells grid₀ values₀ n place₀ a₀ grid values place a = Filling coefficients powers bounds cells grid₀ values₀ place grid values a
+Inv-loop coefficients powers bounds cells grid₀ values₀ n index₀ a₀ grid values index a = Filling coefficients powers bounds cells grid₀ values₀ index grid values a
 
 abbrev μ-loop : tie.MeasureT-loop
-μ-loop coefficients powers bounds cells grid₀ values₀ n place₀ a₀ grid values place a = length values₀ - a
+μ-loop coefficients powers bounds cells grid₀ values₀ n index₀ a₀ grid values index a = length values₀ - a
 
 add-n : tie.Need-add-n Inv-loop μ-loop
 add-n c = search needs
@@ -21,7 +21,7 @@ loop-holds c = filling-starts _ _ _ _ _ _ (c .before .before .before .before .pr
 
 node-requires : tie.Need-node-requires Inv-loop μ-loop
 node-requires c κs =
-    let p = filling-placed _ _ _ _ _ _ (c .before .before .before .before .before .before .pre) (c .before .loop .inv) (c .loop-test .taken) in
+    let p = filling-inside _ _ _ _ _ _ (c .before .before .before .before .before .before .pre) (c .before .loop .inv) (c .loop-test .taken) in
     (omega arith, omega arith, omega arith)
 
 mul-grid : tie.Need-mul-grid Inv-loop μ-loop
@@ -69,7 +69,7 @@ slice-write-values c = omega arith
 next-requires : tie.Need-next-requires Inv-loop μ-loop
 next-requires c κs =
     let l = c .before .before in
-    filling-placed _ _ _ _ _ _ (l .before .before .before .before .before .before .pre) (l .before .loop .inv) (l .loop-test .taken)
+    filling-inside _ _ _ _ _ _ (l .before .before .before .before .before .before .pre) (l .before .loop .inv) (l .loop-test .taken)
 
 add-a : tie.Need-add-a Inv-loop μ-loop
 add-a c = omega arith

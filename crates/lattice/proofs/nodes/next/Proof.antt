@@ -1,6 +1,6 @@
 -- `lattice::nodes::next` meets its contract. Assumes nothing.
 use borrow.Author.Needs.{needs}
-use Rattle.lattice.proofs.Places.{same-row, next-row, next-layer}
+use Rattle.lattice.proofs.Indices.{same-row, next-row, next-layer}
 use Rattle.lattice.proofs.nodes.next.Statement.{statement}
 use Rattle.lattice.proofs.nodes.next.Tie as tie
 

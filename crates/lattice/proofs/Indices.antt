@@ -1,4 +1,4 @@
--- Where nodes stand: a node's number by its place, the place after a node's, the end of a step, and that nothing of it is large. Assumes nothing.
+-- A node's number and its index, the next index, the end of a step, and that nothing of it is large. Assumes nothing.
 use mathlib.Core.Path.{_≡_, refl, sym, ap, ap₂, _∙_, subst}
 use mathlib.Core.Bool.{Bool, true, false, _&&_, cond, and-false}
 use mathlib.Core.List.{List, [], _∷_}
@@ -12,8 +12,9 @@ use Rattle.surface.proofs.Bools.{both}
 use Rattle.field.specs.Valid.{every}
 use Rattle.lattice.specs.Node.{cube, alongX, alongY, alongZ}
 use Rattle.lattice.specs.Edges.{stepX, stepY, stepZ, staysInside, stepEnd}
-use Rattle.lattice.specs.Stages.{placeOf, following, endOrStart, Placeable, Standing}
-use Rattle.lattice.specs.declared.nodes.Place.{Place}
+use Rattle.lattice.specs.Laws.{StepLaws}
+use Rattle.lattice.specs.Stages.{indexOf, nextIndex, endOrStart, InLattice, AtNode}
+use Rattle.lattice.specs.declared.nodes.Index.{Index}
 
 pub square-small : (n : ℕ) → n ≤ 129 → n * n ≤ 16641
 square-small n h = mul-le-mul h h
@@ -21,10 +22,10 @@ square-small n h = mul-le-mul h h
 pub cube-small : (n : ℕ) → n ≤ 129 → cube n ≤ 2146689
 cube-small n h = mul-le-mul (square-small n h) h
 
--- ---- a node's number and its place
+-- ---- a node's number and its index
 
-pub standing : (n a : ℕ) → alongX n a + n * (alongY n a + n * alongZ n a) ≡ a
-standing n a =
+pub node-number : (n a : ℕ) → alongX n a + n * (alongY n a + n * alongZ n a) ≡ a
+node-number n a =
     ap (λ (k : ℕ). a % n + n * (a / n % n + n * k)) (sym (div-div-eq-div-mul a n n))
     ∙ ap (λ (k : ℕ). a % n + n * k) (mod-add-div (a / n) n)
     ∙ mod-add-div a n
@@ -39,8 +40,8 @@ moved n x y z dx dy dz =
     let t : n * n * dz ≡ n * (n * dz) = mul-assoc n n dz in
     omega arith
 
-same-place : {x x′ y y′ z z′ : ℕ} → x ≡ x′ → y ≡ y′ → z ≡ z′ → _≡_ {A = Place} (record { x = x; y = y; z = z }) (record { x = x′; y = y′; z = z′ })
-same-place {x} {x′} {y} {y′} {z} {z′} p q r = cc
+same-index : {x x′ y y′ z z′ : ℕ} → x ≡ x′ → y ≡ y′ → z ≡ z′ → _≡_ {A = Index} (record { x = x; y = y; z = z }) (record { x = x′; y = y′; z = z′ })
+same-index {x} {x′} {y} {y′} {z} {z′} p q r = cc
 
 by-rows : (n x w : ℕ) → x < n → (x + n * w) / n ≡ w
 by-rows n x w h =
@@ -48,27 +49,27 @@ by-rows n x w h =
     let z : x / n ≡ 0 = div-eq-of-lt h in
     add-mul-div-left x w p ∙ omega arith
 
-pub placed : (n x y z a : ℕ) → x < n → y < n → x + n * (y + n * z) ≡ a → placeOf n a ≡ record { x = x; y = y; z = z }
-placed n x y z a hx hy e =
+pub index-is : (n x y z a : ℕ) → x < n → y < n → x + n * (y + n * z) ≡ a → indexOf n a ≡ record { x = x; y = y; z = z }
+index-is n x y z a hx hy e =
     let row : (x + n * (y + n * z)) / n ≡ y + n * z = by-rows n x (y + n * z) hx in
-    same-place
+    same-index
     (ap (alongX n) (sym e) ∙ add-mul-mod-self-left x n (y + n * z) ∙ mod-eq-of-lt hx)
     (ap (alongY n) (sym e) ∙ ap (λ (w : ℕ). w % n) row ∙ add-mul-mod-self-left y n z ∙ mod-eq-of-lt hy)
     (ap (alongZ n) (sym e) ∙ sym (div-div-eq-div-mul (x + n * (y + n * z)) n n) ∙ ap (λ (w : ℕ). w / n) row ∙ by-rows n y z hy)
 
-pub first-place : (n : ℕ) → record { x = 0; y = 0; z = 0 } ≡ placeOf n 0
-first-place n = same-place (sym (zero-mod n)) (sym (ap (λ (w : ℕ). w % n) (zero-div n) ∙ zero-mod n)) (sym (zero-div (n * n)))
+pub first-index : (n : ℕ) → record { x = 0; y = 0; z = 0 } ≡ indexOf n 0
+first-index n = same-index (sym (zero-mod n)) (sym (ap (λ (w : ℕ). w % n) (zero-div n) ∙ zero-mod n)) (sym (zero-div (n * n)))
 
--- a node's place is one of the lattice
-pub node-placed : (n a : ℕ) → 0 < n → n ≤ 129 → a < cube n → Placeable n (placeOf n a)
-node-placed n a some few h =
+-- a node's index is one of the lattice
+pub node-inside : (n a : ℕ) → 0 < n → n ≤ 129 → a < cube n → InLattice n (indexOf n a)
+node-inside n a some few h =
     let t : n * n * n ≡ n * (n * n) = mul-assoc n n n in
     record { few = few; x = mod-lt a some; y = mod-lt (a / n) some; z = div-lt-iff-lt-mul (mul-pos some some) .1 (omega arith) }
 
-pub standing-placed : {n a : ℕ} {p : Place} → Standing n a p → Placeable n p
-standing-placed {n} {a} s = subst (Placeable n) (sym (s .place)) (node-placed n a (s .some) (s .few) (s .inside))
+pub at-node-inside : {n a : ℕ} {p : Index} → AtNode n a p → InLattice n p
+at-node-inside {n} {a} s = subst (InLattice n) (sym (s .index)) (node-inside n a (s .some) (s .few) (s .inside))
 
--- the next node stands at the following place
+-- the next node has the next index
 module _ (n a : ℕ) (some : 0 < n) where
   x : ℕ
   x = alongX n a
@@ -79,18 +80,18 @@ module _ (n a : ℕ) (some : 0 < n) where
   z : ℕ
   z = alongZ n a
 
-  by-y : (b : Bool) → ltb (y + 1) n ≡ b → n ≤ x + 1 → cond b (record { x = 0; y = y + 1; z = z }) (record { x = 0; y = 0; z = z + 1 }) ≡ placeOf n (a + 1)
+  by-y : (b : Bool) → ltb (y + 1) n ≡ b → n ≤ x + 1 → cond b (record { x = 0; y = y + 1; z = z }) (record { x = 0; y = 0; z = z + 1 }) ≡ indexOf n (a + 1)
   unfolding x y z
-  by-y true q h = sym (placed n 0 (y + 1) z (a + 1) some (ltb-true _ _ q) row)
+  by-y true q h = sym (index-is n 0 (y + 1) z (a + 1) some (ltb-true _ _ q) row)
     where
       row : 0 + n * (y + 1 + n * z) ≡ a + 1
       row =
           let e : y + 1 + n * z ≡ y + n * z + 1 = omega arith in
           let d : n * (y + 1 + n * z) ≡ n * (y + n * z) + n = ap (λ (k : ℕ). n * k) e ∙ mul-add n (y + n * z) 1 ∙ ap (λ (k : ℕ). n * (y + n * z) + k) (mul-one n) in
-          let s : x + n * (y + n * z) ≡ a = standing n a in
+          let s : x + n * (y + n * z) ≡ a = node-number n a in
           let l : x < n = mod-lt a some in
           omega arith
-  by-y false q h = sym (placed n 0 0 (z + 1) (a + 1) some some layer)
+  by-y false q h = sym (index-is n 0 0 (z + 1) (a + 1) some some layer)
     where
       layer : 0 + n * (0 + n * (z + 1)) ≡ a + 1
       layer =
@@ -99,30 +100,30 @@ module _ (n a : ℕ) (some : 0 < n) where
           let f : n * (z + 1) ≡ n * z + n = mul-add n z 1 ∙ ap (λ (k : ℕ). n * z + k) (mul-one n) in
           let e : 0 + n * (z + 1) ≡ y + n * z + 1 = omega arith in
           let d : n * (0 + n * (z + 1)) ≡ n * (y + n * z) + n = ap (λ (k : ℕ). n * k) e ∙ mul-add n (y + n * z) 1 ∙ ap (λ (k : ℕ). n * (y + n * z) + k) (mul-one n) in
-          let s : x + n * (y + n * z) ≡ a = standing n a in
+          let s : x + n * (y + n * z) ≡ a = node-number n a in
           let l : x < n = mod-lt a some in
           omega arith
 
-  by-x : (b : Bool) → ltb (x + 1) n ≡ b → cond b (record { x = x + 1; y = y; z = z }) (cond (ltb (y + 1) n) (record { x = 0; y = y + 1; z = z }) (record { x = 0; y = 0; z = z + 1 })) ≡ placeOf n (a + 1)
+  by-x : (b : Bool) → ltb (x + 1) n ≡ b → cond b (record { x = x + 1; y = y; z = z }) (cond (ltb (y + 1) n) (record { x = 0; y = y + 1; z = z }) (record { x = 0; y = 0; z = z + 1 })) ≡ indexOf n (a + 1)
   unfolding x y z
   by-x true q =
-      let s : x + n * (y + n * z) ≡ a = standing n a in
-      sym (placed n (x + 1) y z (a + 1) (ltb-true _ _ q) (mod-lt (a / n) some) (omega arith))
+      let s : x + n * (y + n * z) ≡ a = node-number n a in
+      sym (index-is n (x + 1) y z (a + 1) (ltb-true _ _ q) (mod-lt (a / n) some) (omega arith))
   by-x false q = by-y (ltb (y + 1) n) refl (ltb-false _ _ q)
 
-  pub next-place : following n (placeOf n a) ≡ placeOf n (a + 1)
+  pub next-index : nextIndex n (indexOf n a) ≡ indexOf n (a + 1)
   unfolding x y z
-  next-place = by-x (ltb (x + 1) n) refl
+  next-index = by-x (ltb (x + 1) n) refl
 
--- the cases of the following place
-module _ (n : ℕ) (p : Place) where
-  pub same-row : p .x + 1 < n → record { x = p .x + 1; y = p .y; z = p .z } ≡ following n p
+-- the cases of the next index
+module _ (n : ℕ) (p : Index) where
+  pub same-row : p .x + 1 < n → record { x = p .x + 1; y = p .y; z = p .z } ≡ nextIndex n p
   same-row h = rw (lt-ltb (p .x + 1) n h) refl
 
-  pub next-row : n ≤ p .x + 1 → p .y + 1 < n → record { x = 0; y = p .y + 1; z = p .z } ≡ following n p
+  pub next-row : n ≤ p .x + 1 → p .y + 1 < n → record { x = 0; y = p .y + 1; z = p .z } ≡ nextIndex n p
   next-row h k = rw (le-ltb (p .x + 1) n h, lt-ltb (p .y + 1) n k) refl
 
-  pub next-layer : n ≤ p .x + 1 → n ≤ p .y + 1 → record { x = 0; y = 0; z = p .z + 1 } ≡ following n p
+  pub next-layer : n ≤ p .x + 1 → n ≤ p .y + 1 → record { x = 0; y = 0; z = p .z + 1 } ≡ nextIndex n p
   next-layer h k = rw (le-ltb (p .x + 1) n h, le-ltb (p .y + 1) n k) refl
 
 -- ---- a step that stays in the lattice
@@ -138,7 +139,7 @@ inside n x y z a b c =
 
 module _ (n a d : ℕ) (hx : alongX n a + stepX d < n) (hy : alongY n a + stepY d < n) (hz : alongZ n a + stepZ d < n) where
   end-number : (alongX n a + stepX d) + n * ((alongY n a + stepY d) + n * (alongZ n a + stepZ d)) ≡ stepEnd n a d
-  end-number = moved n (alongX n a) (alongY n a) (alongZ n a) (stepX d) (stepY d) (stepZ d) ∙ ap (λ (k : ℕ). k + (stepX d + n * stepY d + n * n * stepZ d)) (standing n a)
+  end-number = moved n (alongX n a) (alongY n a) (alongZ n a) (stepX d) (stepY d) (stepZ d) ∙ ap (λ (k : ℕ). k + (stepX d + n * stepY d + n * n * stepZ d)) (node-number n a)
 
   -- it ends at a node
   pub step-inside : stepEnd n a d < cube n
@@ -148,20 +149,20 @@ module _ (n a d : ℕ) (hx : alongX n a + stepX d < n) (hy : alongY n a + stepY 
       omega arith
 
   -- which stands further along x, y and z by what the step adds
-  pub step-further : placeOf n (stepEnd n a d) ≡ record { x = alongX n a + stepX d; y = alongY n a + stepY d; z = alongZ n a + stepZ d }
-  step-further = placed n (alongX n a + stepX d) (alongY n a + stepY d) (alongZ n a + stepZ d) (stepEnd n a d) hx hy end-number
+  pub step-further : indexOf n (stepEnd n a d) ≡ record { x = alongX n a + stepX d; y = alongY n a + stepY d; z = alongZ n a + stepZ d }
+  step-further = index-is n (alongX n a + stepX d) (alongY n a + stepY d) (alongZ n a + stepZ d) (stepEnd n a d) hx hy end-number
 
 -- ---- the tests of `step_end`
 
-module _ (n a d : ℕ) (p : Place) (s : Standing n a p) (x y z : ℕ) (ex : x ≡ stepX d) (ey : y ≡ stepY d) (ez : z ≡ stepZ d) where
+module _ (n a d : ℕ) (p : Index) (s : AtNode n a p) (x y z : ℕ) (ex : x ≡ stepX d) (ey : y ≡ stepY d) (ez : z ≡ stepZ d) where
   sx : p .x + x ≡ alongX n a + stepX d
-  sx = ap₂ (λ (i j : ℕ). i + j) (ap (λ (q : Place). q .x) (s .place)) ex
+  sx = ap₂ (λ (i j : ℕ). i + j) (ap (λ (q : Index). q .x) (s .index)) ex
 
   sy : p .y + y ≡ alongY n a + stepY d
-  sy = ap₂ (λ (i j : ℕ). i + j) (ap (λ (q : Place). q .y) (s .place)) ey
+  sy = ap₂ (λ (i j : ℕ). i + j) (ap (λ (q : Index). q .y) (s .index)) ey
 
   sz : p .z + z ≡ alongZ n a + stepZ d
-  sz = ap₂ (λ (i j : ℕ). i + j) (ap (λ (q : Place). q .z) (s .place)) ez
+  sz = ap₂ (λ (i j : ℕ). i + j) (ap (λ (q : Index). q .z) (s .index)) ez
 
   pub off-x : n ≤ p .x + x → a ≡ endOrStart n a d
   off-x h = rw (le-ltb (alongX n a + stepX d) n (subst (λ (i : ℕ). n ≤ i) sx h)) refl
@@ -177,16 +178,31 @@ module _ (n a d : ℕ) (p : Place) (s : Standing n a p) (x y z : ℕ) (ex : x �
       ap (λ (m : ℕ). a + (m + n * y + n * n * z)) ex ∙ ap (λ (m : ℕ). a + (stepX d + n * m + n * n * z)) ey ∙ ap (λ (m : ℕ). a + (stepX d + n * stepY d + n * n * m)) ez
       ∙ rw (lt-ltb (alongX n a + stepX d) n (subst (λ (i : ℕ). i < n) sx hx), lt-ltb (alongY n a + stepY d) n (subst (λ (i : ℕ). i < n) sy hy), lt-ltb (alongZ n a + stepZ d) n (subst (λ (i : ℕ). i < n) sz hz)) refl
 
+-- a test that is passed, along x, y and z
+stays-by : (n a d : ℕ) → staysInside n a d ≡ true → (alongX n a + stepX d < n) × (alongY n a + stepY d < n) × (alongZ n a + stepZ d < n)
+stays-by n a d q =
+    let p = both (ltb (alongX n a + stepX d) n) (ltb (alongY n a + stepY d) n && ltb (alongZ n a + stepZ d) n) q in
+    let r = both (ltb (alongY n a + stepY d) n) (ltb (alongZ n a + stepZ d) n) (p .1) in
+    (ltb-true _ _ (p .0), ltb-true _ _ (r .0), ltb-true _ _ (r .1))
+
 -- a node either way
 pub end-or-start-inside : (n a d : ℕ) → a < cube n → endOrStart n a d < cube n
 end-or-start-inside n a d h = go (staysInside n a d) refl
   where
     go : (b : Bool) → staysInside n a d ≡ b → cond b (stepEnd n a d) a < cube n
-    go true q =
-        let p = both (ltb (alongX n a + stepX d) n) (ltb (alongY n a + stepY d) n && ltb (alongZ n a + stepZ d) n) q in
-        let r = both (ltb (alongY n a + stepY d) n) (ltb (alongZ n a + stepZ d) n) (p .1) in
-        step-inside n a d (ltb-true _ _ (p .0)) (ltb-true _ _ (r .0)) (ltb-true _ _ (r .1))
+    go true q = let s = stays-by n a d q in step-inside n a d (s .0) (s .1) (s .2)
     go false q = h
+
+pub step-laws : StepLaws
+step-laws = record {
+  at-node = λ n a d q. let s = stays-by n a d q in step-inside n a d (s .0) (s .1) (s .2);
+  further-x = λ n a d q. ap (λ (i : Index). i .x) (end-index n a d q);
+  further-y = λ n a d q. ap (λ (i : Index). i .y) (end-index n a d q);
+  further-z = λ n a d q. ap (λ (i : Index). i .z) (end-index n a d q);
+}
+  where
+    end-index : (n a d : ℕ) → staysInside n a d ≡ true → indexOf n (stepEnd n a d) ≡ record { x = alongX n a + stepX d; y = alongY n a + stepY d; z = alongZ n a + stepZ d }
+    end-index n a d q = let s = stays-by n a d q in step-further n a d (s .0) (s .1) (s .2)
 
 -- ---- sizes
 
