@@ -8,7 +8,7 @@ use lib.IntN.{ℤ, pos, natAbs}
 use lib.ListN.{length, getD, take, drop, replicate, length-map, List·getD-append}
 use lib.Seq.{take-at}
 use Rattle.surface.specs.Check.{every}
-use Rattle.sheet.specs.Edition.{edition, IsEdition}
+use Rattle.sheet.specs.Edition.{edition, IsEdition, isEdition?}
 use Rattle.sheet.specs.Sheet.{Point, Sheet, text, coordinatesOf}
 use Rattle.sheet.specs.Contents as Contents
 use Rattle.sheet.specs.Contents.{Contents, Says, contents}
@@ -17,7 +17,7 @@ use Rattle.sheet.specs.Stages.{IsFound}
 use Rattle.sheet.proofs.Contents.{contents-laws}
 use Rattle.sheet.proofs.Stores.{length-coordinates}
 use Rattle.sheet.proofs.Tests.{both-mean, le-means, fails}
-use Rattle.writing.specs.Lists.{isEdition?, sheetFront}
+use Rattle.writing.specs.Lists.{sheetFront}
 use Rattle.writing.specs.Written.{Writing, written, refused, Leaves}
 use Rattle.writing.specs.declared.Written as declared
 use Rattle.writing.specs.declared.Written.the-variants.{Refused}

@@ -5,7 +5,7 @@ use mathlib.Core.List.{List, _++_}
 use Prim.Native.Nat.{ℕ, _-_, _*_}
 use native.Mathlib.Omega.{arith}
 use lib.ListN.{length, replicate, length-map}
-use Rattle.sheet.specs.Edition.{edition, IsEdition}
+use Rattle.sheet.specs.Edition.{edition, IsEdition, isEdition?}
 use Rattle.sheet.specs.Sheet.{Sheet, text}
 use Rattle.sheet.specs.Contents as Contents
 use Rattle.sheet.specs.Contents.{Contents, Says, contents}
@@ -18,7 +18,6 @@ use Rattle.sheet.proofs.Tests.{both-mean, le-means, fails}
 use Rattle.reading.specs.Given.{read, zeroFloat, holds?, readingOf}
 use Rattle.reading.specs.Given as Given
 use Rattle.reading.specs.declared.Answer.the-variants as declared
-use Rattle.writing.specs.Lists.{isEdition?}
 use Rattle.writing.specs.Written.{written, refused}
 use Rattle.writing.proofs.Laws.{only-passed}
 use Rattle.converting.specs.Converting.{unitOf, sheetConversion, conversion}

@@ -9,13 +9,13 @@ use lib.IntN.{ℤ}
 use lib.ListN.{length, getD, take, replicate}
 use lib.Ieee.{Float}
 use lib.Seq.{take-at}
-use Rattle.sheet.specs.Edition.{edition}
+use Rattle.sheet.specs.Edition.{edition, isEdition?}
 use Rattle.sheet.specs.Sheet.{Sheet, text}
 use Rattle.sheet.specs.Contents as Contents
 use Rattle.sheet.specs.Contents.{Contents, contents}
 use Rattle.sheet.specs.Conversion.{convertible?, sheetInUnit}
 use Rattle.reading.specs.Given.{readingIn, sheetAnswer, answerNumber, answerCounts}
-use Rattle.writing.specs.Lists.{isEdition?, sayable?, listSheet}
+use Rattle.writing.specs.Lists.{sayable?, listSheet}
 use Rattle.writing.specs.Written.{Writing, written, refused, listText, writtenOf, writtenNumber, writtenLength, bytesAfter}
 use Rattle.writing.proofs.Laws.{writing-laws}
 use Rattle.converting.specs.Converting.{unitOf, conversion}

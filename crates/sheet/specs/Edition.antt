@@ -1,8 +1,8 @@
 -- The two editions of the sheet (document 01, document 02's F-8): the unit of the coordinates, their range, and what stands before the counts. Definitions only.
 use Prim.Native.Nat.{ℕ, _≤_}
-use mathlib.Core.Bool.{true, false}
+use mathlib.Core.Bool.{Bool, true, false, _&&_}
 use mathlib.Core.List.{List, [], _∷_, _++_}
-use lib.Dec.{eqb}
+use lib.Dec.{eqb, leb}
 use Rattle.sheet.specs.Text.{bytes, line}
 
 -- coordinates are whole numbers of 1/unit, within ±most; a sheet begins with `opening`, and its counts follow
@@ -22,6 +22,9 @@ secondEdition = record { unit = 65536; most = 2097152; opening = line (bytes "ed
 -- the numbers of the editions
 abbrev pub IsEdition : ℕ → Type 0
 IsEdition number = (1 ≤ number) × (number ≤ 2)
+
+abbrev pub isEdition? : ℕ → Bool
+isEdition? number = leb 1 number && leb number 2
 
 -- the edition with that number (no other number's is asked for)
 abbrev pub edition : ℕ → Edition

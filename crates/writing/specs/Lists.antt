@@ -7,7 +7,7 @@ use lib.Dec.{eqb, leb}
 use lib.IntN.{ℤ, pos, natAbs}
 use lib.ListN.{length, getD}
 use Rattle.surface.specs.Check.{every}
-use Rattle.sheet.specs.Edition.{edition, IsEdition}
+use Rattle.sheet.specs.Edition.{edition, IsEdition, isEdition?}
 use Rattle.sheet.specs.Sheet.{Point, Triangle, Sheet, InRange, coordinatesOf, cornersOf, labelsOf}
 
 -- the lists hold the numbers of s, which a sheet of that edition can say
@@ -19,9 +19,6 @@ pub record Sayable (number : ℕ) (coordinates : List ℤ) (corners labels : Lis
   pub label-list : labels ≡ labelsOf (s .triangles)
 
 -- ---- computed
-
-abbrev pub isEdition? : ℕ → Bool
-isEdition? number = leb 1 number && leb number 2
 
 abbrev pub coordinateInRange? : ℕ → ℤ → Bool
 coordinateInRange? most z = leb (natAbs z) most
