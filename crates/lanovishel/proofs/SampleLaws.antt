@@ -10,7 +10,7 @@ use Rattle.blank.specs.Blank.{thenBlank}
 use Rattle.field.specs.Number.{plusZero}
 use Rattle.lattice.specs.Node.{perSide}
 use Rattle.lattice.specs.Edges.{Edge, edgeWords}
-use Rattle.lattice.specs.Sample.{nodes, lowerLevel, upperLevel, latticeValues, latticeEdges, latticeOf, whenSampled}
+use Rattle.lattice.specs.Sample.{nodes, lowerLevel, upperLevel, latticeValues, latticeEdges, whenSampled}
 use Rattle.lattice.specs.Laws.{Samples, ListsCrossed}
 use Rattle.lattice.specs.declared.Lattice.{Lattice}
 use Rattle.lattice.proofs.Answers.{zero-passes, passes-sampled, zero-means}

@@ -14,6 +14,7 @@ use Rattle.lattice.specs.Node.{perSide, cube}
 use Rattle.lattice.specs.Edges.{Edge, crossedEdge?, edgeAt, crossedAmong, crossedEdges}
 use Rattle.lattice.specs.Laws.{sameEdge?, timesListed, EdgeBefore, noEdge, ListsCrossed}
 use Rattle.lattice.specs.Sample.{lowerLevel, upperLevel, latticeValues, latticeEdges}
+use Rattle.lattice.proofs.Noting.{among-few}
 use Rattle.lattice.proofs.Crossing.{crossed-says, says-crossed, same-edge, same-itself, turn, turn-of, at-turn, turn-before}
 
 -- ---- how often
@@ -166,6 +167,7 @@ module _ (n : ℕ) (lower upper : Float) (values : List Float) where
     once = λ e c. late e (c .step) (c .label) (says-crossed n lower upper values e c) (cube n * 14) (in-time (e .node) (cube n) (e .step) (e .label) (c .node) (c .step) (c .label));
     no-other = λ e h. never e (λ q. h (crossed-says n lower upper values e q)) (cube n * 14);
     rising = λ i j l h. rises (cube n * 14) i j l h;
+    few = among-few n lower upper values 0 (cube n * 14);
   }
 
 pub lattice-listed : (qs : List Float) (ns : List ℕ) (levels bounds : List Float) (cells : ℕ) → ListsCrossed (perSide cells) (lowerLevel levels) (upperLevel levels) (latticeValues qs ns levels bounds cells) (latticeEdges qs ns levels bounds cells)

@@ -45,6 +45,8 @@ pub record ListsCrossed (n : ℕ) (lower upper : Float) (values : List Float) (e
   pub once : (e : Edge) → CrossedEdge n lower upper values e → timesListed e es ≡ 1
   pub no-other : (e : Edge) → (CrossedEdge n lower upper values e → ⊥) → timesListed e es ≡ 0
   pub rising : (i j : ℕ) → i < j → j < length es → EdgeBefore (getD es i noEdge) (getD es j noEdge)
+  -- so that there are no more than fourteen a node
+  pub few : length es ≤ cube n * 14
 
 -- a step that stays in the lattice ends at a node, whose index is further along x, y and z by what the step adds
 pub record StepLaws : Type 0 where
