@@ -21,6 +21,7 @@ ghost use Rattle.lanovishel.specs.Outlines.{OutlinesCall};
 ghost use Rattle.lanovishel.specs.Sheets.{ReadSheetCall, WriteSheetCall, ConvertSheetCall};
 ghost use Rattle.lanovishel.specs.Edit.{EditCall};
 ghost use Rattle.lanovishel.specs.Improve.{ImproveCall};
+ghost use Rattle.lattice.specs.Sample.{told, lists};
 ghost use Rattle.lanovishel.specs.Sample.{SampleCall};
 
 // The square root of IEEE 754.
@@ -301,7 +302,7 @@ pub extern "C" fn lanovishel_sample(
     edges: &mut [u32],
     counts: &mut [u32; 3],
 ) -> u32
-    ensures { λ r. ⌜ SampleCall (now (coefficients .entry)) (now (powers .entry)) (now (levels .entry)) (now (bounds .entry)) cells (now (grid .entry)) (now (values .entry)) (now (edges .entry)) (now (grid .exit)) (now (values .exit)) (now (edges .exit)) (now (counts .exit)) r ⌝ }
+    ensures { λ r. ⌜ SampleCall (told (now (coefficients .entry)) (now (powers .entry)) (now (levels .entry)) (now (bounds .entry)) cells) (lists (now (grid .entry)) (now (values .entry)) (now (edges .entry))) (lists (now (grid .exit)) (now (values .exit)) (now (edges .exit))) (now (counts .exit)) r ⌝ }
 {
     match lattice::sample(
         coefficients,

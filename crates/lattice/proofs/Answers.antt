@@ -2,18 +2,16 @@
 use mathlib.Core.Path.{_≡_, refl, sym, ap, _∙_}
 use mathlib.Core.Logic.{_↔_}
 use mathlib.Core.Bool.{Bool, true, false, _&&_}
-use mathlib.Core.List.{List}
 use Prim.Native.Nat.{ℕ, suc, _*_, _≤_}
 use native.Mathlib.Omega.{arith}
 use lib.Dec.{leb}
 use lib.ListN.{length}
-use lib.Ieee.{Float}
 use borrow.Author.Tests.{leb-true, le-leb}
 use Rattle.float.specs.Order.{isFinite}
 use Rattle.surface.proofs.Bools.{both}
 use Rattle.field.specs.Valid.{every, sheetOk}
 use Rattle.lattice.specs.Node.{perSide, cube}
-use Rattle.lattice.specs.Sample.{nodes, lowerLevel, upperLevel, rawValues, latticeValues, latticeEdges, orRefused, afterNodes, latticeOf, latticeNumber}
+use Rattle.lattice.specs.Sample.{SampledField, LatticeLists, nodes, lowerLevel, upperLevel, rawValues, latticeValues, latticeEdges, orRefused, afterNodes, latticeOf, latticeNumber}
 use Rattle.lattice.specs.Laws.{Samples}
 use Rattle.lattice.specs.Stages.{nodesIn, edgesIn}
 use Rattle.lattice.specs.declared.Lattice.{Lattice}
@@ -26,20 +24,17 @@ passes : (b : Bool) (k : ℕ) (later : Lattice) → latticeNumber (orRefused b (
 passes true k later e = (refl, e)
 passes false k later e = absurd (omega arith)
 
-module _ (qs : List Float) (ns : List ℕ) (levels bounds : List Float) (cells gridPlaces valuePlaces edgePlaces : ℕ) where
-  abbrev pub lattice : Lattice
-  lattice = latticeOf qs ns levels bounds cells gridPlaces valuePlaces edgePlaces
-
-  pub zero-passes : latticeNumber lattice ≡ 0 → Samples qs ns levels bounds cells gridPlaces valuePlaces edgePlaces
+module _ (f : SampledField) (lent : LatticeLists) where
+  pub zero-passes : latticeNumber (latticeOf f lent) ≡ 0 → Samples f lent
   unfolding latticeOf afterNodes
   zero-passes e =
-      let a = passes (sheetOk qs ns levels bounds) 12 _ e in
-      let b = passes (leb 4 cells && leb cells 128) 33 _ (a .1) in
-      let c = passes (leb (nodes cells * 3) gridPlaces && leb (nodes cells) valuePlaces) 34 _ (b .1) in
-      let d = passes (every isFinite (rawValues qs ns bounds cells)) 35 _ (c .1) in
-      let f = passes (leb (length (latticeEdges qs ns levels bounds cells) * 3) edgePlaces) 34 _ (d .1) in
-      let range = both (leb 4 cells) (leb cells 128) (b .0) in
-      let room = both (leb (nodes cells * 3) gridPlaces) (leb (nodes cells) valuePlaces) (c .0) in
+      let a = passes (sheetOk (f .coefficients) (f .powers) (f .levels) (f .bounds)) 12 _ e in
+      let b = passes (leb 4 (f .cells) && leb (f .cells) 128) 33 _ (a .1) in
+      let c = passes (leb (nodes (f .cells) * 3) (length (lent .grid)) && leb (nodes (f .cells)) (length (lent .values))) 34 _ (b .1) in
+      let d = passes (every isFinite (rawValues f)) 35 _ (c .1) in
+      let e′ = passes (leb (length (latticeEdges f) * 3) (length (lent .edges))) 34 _ (d .1) in
+      let range = both (leb 4 (f .cells)) (leb (f .cells) 128) (b .0) in
+      let room = both (leb (nodes (f .cells) * 3) (length (lent .grid))) (leb (nodes (f .cells)) (length (lent .values))) (c .0) in
       record {
         sheet = a .0;
         some = leb-true _ _ (range .0);
@@ -47,26 +42,26 @@ module _ (qs : List Float) (ns : List ℕ) (levels bounds : List Float) (cells g
         gridRoom = leb-true _ _ (room .0);
         valueRoom = leb-true _ _ (room .1);
         finite = d .0;
-        edgeRoom = leb-true _ _ (f .0);
+        edgeRoom = leb-true _ _ (e′ .0);
       }
 
-  pub passes-sampled : Samples qs ns levels bounds cells gridPlaces valuePlaces edgePlaces → lattice ≡ Sampled (nodes cells) (length (latticeEdges qs ns levels bounds cells))
+  pub passes-sampled : Samples f lent → latticeOf f lent ≡ Sampled (nodes (f .cells)) (length (latticeEdges f))
   unfolding latticeOf afterNodes
   passes-sampled s =
-      rw (s .sheet, le-leb 4 cells (s .some), le-leb cells 128 (s .few), le-leb (nodes cells * 3) gridPlaces (s .gridRoom), le-leb (nodes cells) valuePlaces (s .valueRoom), s .finite, le-leb (length (latticeEdges qs ns levels bounds cells) * 3) edgePlaces (s .edgeRoom)) refl
+      rw (s .sheet, le-leb 4 (f .cells) (s .some), le-leb (f .cells) 128 (s .few), le-leb (nodes (f .cells) * 3) (length (lent .grid)) (s .gridRoom), le-leb (nodes (f .cells)) (length (lent .values)) (s .valueRoom), s .finite, le-leb (length (latticeEdges f) * 3) (length (lent .edges)) (s .edgeRoom)) refl
 
-  pub zero-means : (latticeNumber lattice ≡ 0) ↔ Samples qs ns levels bounds cells gridPlaces valuePlaces edgePlaces
+  pub zero-means : (latticeNumber (latticeOf f lent) ≡ 0) ↔ Samples f lent
   zero-means = (zero-passes, λ s. ap latticeNumber (passes-sampled s))
 
   -- up to 129³ nodes, and fourteen edges a node
-  pub small-counts : (n m : ℕ) → lattice ≡ Sampled n m → (n ≤ 2146689) × (m ≤ 30053646)
+  pub small-counts : (n m : ℕ) → latticeOf f lent ≡ Sampled n m → (n ≤ 2146689) × (m ≤ 30053646)
   unfolding latticeEdges
   small-counts n m e =
       let s = zero-passes (ap latticeNumber e) in
       let few = s .few in
       let q = sym e ∙ passes-sampled s in
-      let c : nodes cells ≤ 2146689 = cube-small (perSide cells) (omega arith) in
-      let a = among-few (perSide cells) (lowerLevel levels) (upperLevel levels) (latticeValues qs ns levels bounds cells) 0 (cube (perSide cells) * 14) in
-      let en : n ≡ nodes cells = ap nodesIn q in
-      let em : m ≡ length (latticeEdges qs ns levels bounds cells) = ap edgesIn q in
+      let c : nodes (f .cells) ≤ 2146689 = cube-small (perSide (f .cells)) (omega arith) in
+      let a = among-few (perSide (f .cells)) (lowerLevel f) (upperLevel f) (latticeValues f) 0 (cube (perSide (f .cells)) * 14) in
+      let en : n ≡ nodes (f .cells) = ap nodesIn q in
+      let em : m ≡ length (latticeEdges f) = ap edgesIn q in
       (omega arith, omega arith)

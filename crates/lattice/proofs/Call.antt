@@ -14,10 +14,10 @@ use Rattle.float.specs.Order.{isFinite}
 use Rattle.field.specs.Number.{plusZero}
 use Rattle.field.specs.Valid.{every, sheetOk}
 use Rattle.field.proofs.Checks.{failed, held}
-use Rattle.lattice.specs.Node.{perSide, cube, grid}
+use Rattle.lattice.specs.Node.{perSide, cube}
 use Rattle.lattice.specs.Values.{ontoLevels}
 use Rattle.lattice.specs.Edges.{crossedEdges, edgeWords}
-use Rattle.lattice.specs.Sample.{nodes, lowerLevel, upperLevel, rawValues, latticeValues, latticeEdges, afterNodes, latticeOf, LatticeCall}
+use Rattle.lattice.specs.Sample.{SampledField, LatticeLists, lists, nodes, lowerLevel, upperLevel, latticeGrid, rawValues, latticeValues, latticeEdges, afterNodes, latticeOf, LatticeCall}
 use Rattle.lattice.specs.Stages.{Fillable, NodesFilled, EdgesNoted, nodesIn, edgesIn, FrontsFilled}
 use Rattle.lattice.specs.declared.Lattice.{Lattice}
 use Rattle.lattice.specs.declared.Lattice.the-variants.{Sampled, Refused}
@@ -25,10 +25,10 @@ use Rattle.lattice.proofs.Indices.{cube-small}
 use Rattle.lattice.proofs.Stores.{front, grid-length}
 use Rattle.lattice.proofs.Noting.{noted-length, noted-same, words-length, among-few}
 
-module _ (qs : List Float) (ns : List ℕ) (levels bounds : List Float) (cells : ℕ) where
+module _ (f : SampledField) where
   -- a refusal leaves lists of the same lengths
-  pub refused : {g₀ v₀ g₁ v₁ : List Float} {e₀ e₁ : List ℕ} (lattice : Lattice) (k : ℕ) → lattice ≡ Refused k → length g₁ ≡ length g₀ → length v₁ ≡ length v₀ → length e₁ ≡ length e₀
-      → FrontsFilled lattice qs ns levels bounds cells g₀ v₀ e₀ g₁ v₁ e₁ (Refused k)
+  pub refused : {lent after : LatticeLists} (lattice : Lattice) (k : ℕ) → lattice ≡ Refused k → length (after .grid) ≡ length (lent .grid) → length (after .values) ≡ length (lent .values) → length (after .edges) ≡ length (lent .edges)
+      → FrontsFilled lattice f lent after (Refused k)
   unfolding edgeWords
   refused lattice k q g v e = record {
     answer = sym q;
@@ -45,67 +45,65 @@ module _ (qs : List Float) (ns : List ℕ) (levels bounds : List Float) (cells :
 
   -- ---- `fill`
 
-  not-finite : (places : ℕ) → every isFinite (rawValues qs ns bounds cells) ≡ false → afterNodes qs ns levels bounds cells places ≡ Refused 36
+  not-finite : (places : ℕ) → every isFinite (rawValues f) ≡ false → afterNodes f places ≡ Refused 36
   unfolding afterNodes
   not-finite places p = rw p refl
 
-  short : (places : ℕ) → every isFinite (rawValues qs ns bounds cells) ≡ true → places < length (latticeEdges qs ns levels bounds cells) * 3 → afterNodes qs ns levels bounds cells places ≡ Refused 35
+  short : (places : ℕ) → every isFinite (rawValues f) ≡ true → places < length (latticeEdges f) * 3 → afterNodes f places ≡ Refused 35
   unfolding afterNodes
-  short places p h = rw (p, lt-leb (length (latticeEdges qs ns levels bounds cells) * 3) places h) refl
+  short places p h = rw (p, lt-leb (length (latticeEdges f) * 3) places h) refl
 
-  all : (places : ℕ) → every isFinite (rawValues qs ns bounds cells) ≡ true → length (latticeEdges qs ns levels bounds cells) * 3 ≤ places
-      → afterNodes qs ns levels bounds cells places ≡ Sampled (nodes cells) (length (latticeEdges qs ns levels bounds cells))
+  all : (places : ℕ) → every isFinite (rawValues f) ≡ true → length (latticeEdges f) * 3 ≤ places → afterNodes f places ≡ Sampled (nodes (f .cells)) (length (latticeEdges f))
   unfolding afterNodes
-  all places p h = rw (p, le-leb (length (latticeEdges qs ns levels bounds cells) * 3) places h) refl
+  all places p h = rw (p, le-leb (length (latticeEdges f) * 3) places h) refl
 
-  module _ {g₀ v₀ g₁ v₁ : List Float} (fits : Fillable cells g₀ v₀) (f : NodesFilled qs ns bounds cells g₀ g₁ v₀ v₁) (b : Bool) (tested : b ≡ every isFinite v₁) where
+  module _ {g₀ v₀ g₁ v₁ : List Float} (fits : Fillable (f .cells) g₀ v₀) (n : NodesFilled (f .coefficients) (f .powers) (f .bounds) (f .cells) g₀ g₁ v₀ v₁) (b : Bool) (tested : b ≡ every isFinite v₁) where
     grid-same : length g₁ ≡ length g₀
-    grid-same = ap length (f .gridFront) ∙ length-sets g₀ 0 (grid bounds cells (nodes cells))
+    grid-same = ap length (n .gridFront) ∙ length-sets g₀ 0 (latticeGrid f)
 
-    pub fills-36 : {e₀ : List ℕ} → length v₁ ≡ length v₀ → not b ≡ true → FrontsFilled (afterNodes qs ns levels bounds cells (length e₀)) qs ns levels bounds cells g₀ v₀ e₀ g₁ v₁ e₀ (Refused 36)
-    fills-36 {e₀} same q = refused _ 36 (not-finite (length e₀) (sym (ap (every isFinite) (f .values)) ∙ failed tested q)) grid-same same refl
+    pub fills-36 : {e₀ : List ℕ} → length v₁ ≡ length v₀ → not b ≡ true → FrontsFilled (afterNodes f (length e₀)) f (lists g₀ v₀ e₀) (lists g₁ v₁ e₀) (Refused 36)
+    fills-36 {e₀} same q = refused _ 36 (not-finite (length e₀) (sym (ap (every isFinite) (n .values)) ∙ failed tested q)) grid-same same refl
 
-    module _ (q : not b ≡ false) {v₂ : List Float} (settled : v₂ ≡ ontoLevels (lowerLevel levels) (upperLevel levels) v₁) (kept : length v₂ ≡ length v₀)
-        {e₀ e₁ : List ℕ} {found : ℕ} (noted : EdgesNoted (crossedEdges (perSide cells) (lowerLevel levels) (upperLevel levels) v₂) 0 e₀ found e₁) where
-      finite : every isFinite (rawValues qs ns bounds cells) ≡ true
-      finite = sym (ap (every isFinite) (f .values)) ∙ held tested q
+    module _ (q : not b ≡ false) {v₂ : List Float} (settled : v₂ ≡ ontoLevels (lowerLevel f) (upperLevel f) v₁) (kept : length v₂ ≡ length v₀)
+        {e₀ e₁ : List ℕ} {found : ℕ} (noted : EdgesNoted (crossedEdges (perSide (f .cells)) (lowerLevel f) (upperLevel f) v₂) 0 e₀ found e₁) where
+      finite : every isFinite (rawValues f) ≡ true
+      finite = sym (ap (every isFinite) (n .values)) ∙ held tested q
 
-      final : v₂ ≡ latticeValues qs ns levels bounds cells
+      final : v₂ ≡ latticeValues f
       unfolding latticeValues
-      final = settled ∙ ap (ontoLevels (lowerLevel levels) (upperLevel levels)) (f .values)
+      final = settled ∙ ap (ontoLevels (lowerLevel f) (upperLevel f)) (n .values)
 
-      listed : EdgesNoted (latticeEdges qs ns levels bounds cells) 0 e₀ found e₁
+      listed : EdgesNoted (latticeEdges f) 0 e₀ found e₁
       unfolding latticeEdges
-      listed = noted-same (ap (crossedEdges (perSide cells) (lowerLevel levels) (upperLevel levels)) final) noted
+      listed = noted-same (ap (crossedEdges (perSide (f .cells)) (lowerLevel f) (upperLevel f)) final) noted
 
-      counted : found ≡ length (latticeEdges qs ns levels bounds cells)
-      counted = let n : found ≡ 0 + length (latticeEdges qs ns levels bounds cells) = listed .number in omega arith
+      counted : found ≡ length (latticeEdges f)
+      counted = let m : found ≡ 0 + length (latticeEdges f) = listed .number in omega arith
 
       -- no more than fourteen a node
       pub few-found : found ≤ 30053646
       few-found =
-          let n : found ≡ 0 + length (crossedEdges (perSide cells) (lowerLevel levels) (upperLevel levels) v₂) = noted .number in
-          let a = among-few (perSide cells) (lowerLevel levels) (upperLevel levels) v₂ 0 (cube (perSide cells) * 14) in
+          let m : found ≡ 0 + length (crossedEdges (perSide (f .cells)) (lowerLevel f) (upperLevel f) v₂) = noted .number in
+          let a = among-few (perSide (f .cells)) (lowerLevel f) (upperLevel f) v₂ 0 (cube (perSide (f .cells)) * 14) in
           let k = fits .few in
-          let c : cube (perSide cells) ≤ 2146689 = cube-small (perSide cells) (omega arith) in
+          let c : cube (perSide (f .cells)) ≤ 2146689 = cube-small (perSide (f .cells)) (omega arith) in
           omega arith
 
-      pub fills-35 : length e₁ < found * 3 → FrontsFilled (afterNodes qs ns levels bounds cells (length e₀)) qs ns levels bounds cells g₀ v₀ e₀ g₁ v₂ e₁ (Refused 35)
+      pub fills-35 : length e₁ < found * 3 → FrontsFilled (afterNodes f (length e₀)) f (lists g₀ v₀ e₀) (lists g₁ v₂ e₁) (Refused 35)
       fills-35 h =
           let l = noted-length listed in
           let m = counted in
           refused _ 35 (short (length e₀) finite (omega arith)) grid-same kept l
 
-      pub fills-all : found * 3 ≤ length e₁ → FrontsFilled (afterNodes qs ns levels bounds cells (length e₀)) qs ns levels bounds cells g₀ v₀ e₀ g₁ v₂ e₁ (Sampled (length v₂) found)
+      pub fills-all : found * 3 ≤ length e₁ → FrontsFilled (afterNodes f (length e₀)) f (lists g₀ v₀ e₀) (lists g₁ v₂ e₁) (Sampled (length v₂) found)
       fills-all h =
           let l : length e₁ ≡ length e₀ = noted-length listed in
-          let m : found ≡ length (latticeEdges qs ns levels bounds cells) = counted in
-          let w : length (edgeWords (latticeEdges qs ns levels bounds cells)) ≡ found * 3 = words-length (latticeEdges qs ns levels bounds cells) ∙ ap (λ (k : ℕ). k * 3) (sym m) in
-          let n : length v₂ ≡ nodes cells = kept ∙ fits .valuePlaces in
-          let r = fits .gridPlaces in
-          let places : nodes cells * 3 ≤ length g₀ = r in
+          let m : found ≡ length (latticeEdges f) = counted in
+          let w : length (edgeWords (latticeEdges f)) ≡ found * 3 = words-length (latticeEdges f) ∙ ap (λ (k : ℕ). k * 3) (sym m) in
+          let s : length v₂ ≡ nodes (f .cells) = kept ∙ fits .valuePlaces in
+          let r : nodes (f .cells) * 3 ≤ length g₀ = fits .gridPlaces in
           record {
-            answer = ap (λ (k : ℕ). Sampled k found) n ∙ ap (Sampled (nodes cells)) m ∙ sym (all (length e₀) finite (omega arith));
+            answer = ap (λ (k : ℕ). Sampled k found) s ∙ ap (Sampled (nodes (f .cells))) m ∙ sym (all (length e₀) finite (omega arith));
             gridLength = grid-same;
             valueLength = kept;
             edgeLength = l;
@@ -113,88 +111,86 @@ module _ (qs : List Float) (ns : List ℕ) (levels bounds : List Float) (cells :
             valuePlaces = omega arith;
             edgePlaces = omega arith;
             gridFront =
-                ap (λ (k : ℕ). take (k * 3) g₁) n ∙ ap (take (nodes cells * 3)) (f .gridFront)
-                ∙ front g₀ (grid bounds cells (nodes cells)) (nodes cells * 3) (grid-length bounds cells (nodes cells)) r;
+                ap (λ (k : ℕ). take (k * 3) g₁) s ∙ ap (take (nodes (f .cells) * 3)) (n .gridFront)
+                ∙ front g₀ (latticeGrid f) (nodes (f .cells) * 3) (grid-length (f .bounds) (f .cells) (nodes (f .cells))) r;
             valueFront = take-length v₂ ∙ final;
-            edgeFront = ap (take (found * 3)) (listed .stored) ∙ front e₀ (edgeWords (latticeEdges qs ns levels bounds cells)) (found * 3) w (omega arith);
+            edgeFront = ap (take (found * 3)) (listed .stored) ∙ front e₀ (edgeWords (latticeEdges f)) (found * 3) w (omega arith);
           }
 
   -- ---- `ask_and_fill`
 
-  module _ (g₀ v₀ : List Float) (e₀ : List ℕ) where
-    abbrev pub lattice : Lattice
-    lattice = latticeOf qs ns levels bounds cells (length g₀) (length v₀) (length e₀)
-
-    pub refused-13 : sheetOk qs ns levels bounds ≡ false → lattice ≡ Refused 13
+  module _ (lent : LatticeLists) where
+    pub refused-13 : sheetOk (f .coefficients) (f .powers) (f .levels) (f .bounds) ≡ false → latticeOf f lent ≡ Refused 13
     unfolding latticeOf
     refused-13 p = rw p refl
 
-    module _ (sheet : sheetOk qs ns levels bounds ≡ true) where
-      pub too-few : cells < 4 → lattice ≡ Refused 34
+    module _ (sheet : sheetOk (f .coefficients) (f .powers) (f .levels) (f .bounds) ≡ true) where
+      pub too-few : f .cells < 4 → latticeOf f lent ≡ Refused 34
       unfolding latticeOf
-      too-few h = rw (sheet, lt-leb 4 cells h) refl
+      too-few h = rw (sheet, lt-leb 4 (f .cells) h) refl
 
-      pub too-many : 4 ≤ cells → 128 < cells → lattice ≡ Refused 34
+      pub too-many : 4 ≤ f .cells → 128 < f .cells → latticeOf f lent ≡ Refused 34
       unfolding latticeOf
-      too-many h k = rw (sheet, le-leb 4 cells h, lt-leb cells 128 k) refl
+      too-many h k = rw (sheet, le-leb 4 (f .cells) h, lt-leb (f .cells) 128 k) refl
 
-      module _ (some : 4 ≤ cells) (few : cells ≤ 128) where
-        pub short-grid : length g₀ < nodes cells * 3 → lattice ≡ Refused 35
+      module _ (some : 4 ≤ f .cells) (few : f .cells ≤ 128) where
+        pub short-grid : length (lent .grid) < nodes (f .cells) * 3 → latticeOf f lent ≡ Refused 35
         unfolding latticeOf
-        short-grid h = rw (sheet, le-leb 4 cells some, le-leb cells 128 few, lt-leb (nodes cells * 3) (length g₀) h) refl
+        short-grid h = rw (sheet, le-leb 4 (f .cells) some, le-leb (f .cells) 128 few, lt-leb (nodes (f .cells) * 3) (length (lent .grid)) h) refl
 
-        module _ (room : nodes cells * 3 ≤ length g₀) where
-          pub short-values : length v₀ < nodes cells → lattice ≡ Refused 35
+        module _ (room : nodes (f .cells) * 3 ≤ length (lent .grid)) where
+          pub short-values : length (lent .values) < nodes (f .cells) → latticeOf f lent ≡ Refused 35
           unfolding latticeOf
-          short-values h = rw (sheet, le-leb 4 cells some, le-leb cells 128 few, le-leb (nodes cells * 3) (length g₀) room, lt-leb (nodes cells) (length v₀) h) refl
+          short-values h = rw (sheet, le-leb 4 (f .cells) some, le-leb (f .cells) 128 few, le-leb (nodes (f .cells) * 3) (length (lent .grid)) room, lt-leb (nodes (f .cells)) (length (lent .values)) h) refl
 
-          in-room : nodes cells ≤ length v₀ → lattice ≡ afterNodes qs ns levels bounds cells (length e₀)
+          in-room : nodes (f .cells) ≤ length (lent .values) → latticeOf f lent ≡ afterNodes f (length (lent .edges))
           unfolding latticeOf
-          in-room h = rw (sheet, le-leb 4 cells some, le-leb cells 128 few, le-leb (nodes cells * 3) (length g₀) room, le-leb (nodes cells) (length v₀) h) refl
+          in-room h = rw (sheet, le-leb 4 (f .cells) some, le-leb (f .cells) 128 few, le-leb (nodes (f .cells) * 3) (length (lent .grid)) room, le-leb (nodes (f .cells)) (length (lent .values)) h) refl
 
           -- the front of the values is lent
-          pub lent-front : {g₁ v : List Float} {e₁ : List ℕ} {r : Lattice} → nodes cells ≤ length v₀
-              → FrontsFilled (afterNodes qs ns levels bounds cells (length e₀)) qs ns levels bounds cells g₀ (take (nodes cells) v₀) e₀ g₁ v e₁ r
-              → FrontsFilled lattice qs ns levels bounds cells g₀ v₀ e₀ g₁ (v ++ drop (nodes cells) v₀) e₁ r
+          pub lent-front : {g₁ v : List Float} {e₁ : List ℕ} {r : Lattice} → nodes (f .cells) ≤ length (lent .values)
+              → FrontsFilled (afterNodes f (length (lent .edges))) f (lists (lent .grid) (take (nodes (f .cells)) (lent .values)) (lent .edges)) (lists g₁ v e₁) r
+              → FrontsFilled (latticeOf f lent) f lent (lists g₁ (v ++ drop (nodes (f .cells)) (lent .values)) e₁) r
           lent-front {g₁} {v} {e₁} {r} h t =
-              let f : length (take (nodes cells) v₀) ≡ nodes cells = length-take-le (nodes cells) v₀ h in
-              let l : length v ≡ length (take (nodes cells) v₀) = t .valueLength in
-              let p : nodesIn r ≤ length (take (nodes cells) v₀) = t .valuePlaces in
+              let s : length (take (nodes (f .cells)) (lent .values)) ≡ nodes (f .cells) = length-take-le (nodes (f .cells)) (lent .values) h in
+              let l : length v ≡ length (take (nodes (f .cells)) (lent .values)) = t .valueLength in
+              let p : nodesIn r ≤ length (take (nodes (f .cells)) (lent .values)) = t .valuePlaces in
               record {
                 answer = t .answer ∙ sym (in-room h);
                 gridLength = t .gridLength;
-                valueLength = length-append v (drop (nodes cells) v₀) ∙ omega (arith, length-drop (nodes cells) v₀);
+                valueLength = length-append v (drop (nodes (f .cells)) (lent .values)) ∙ omega (arith, length-drop (nodes (f .cells)) (lent .values));
                 edgeLength = t .edgeLength;
                 gridPlaces = t .gridPlaces;
                 valuePlaces = omega arith;
                 edgePlaces = t .edgePlaces;
                 gridFront = t .gridFront;
-                valueFront = take-append-le (nodesIn r) v (drop (nodes cells) v₀) (omega arith) ∙ t .valueFront;
+                valueFront = take-append-le (nodesIn r) v (drop (nodes (f .cells)) (lent .values)) (omega arith) ∙ t .valueFront;
                 edgeFront = t .edgeFront;
               }
 
   -- ---- `sample`: 0 behind the fronts
 
   -- an answer's counts have room
-  pub room : {g₀ v₀ g₁ v₁ : List Float} {e₀ e₁ : List ℕ} {lattice r : Lattice} {n m : ℕ} → FrontsFilled lattice qs ns levels bounds cells g₀ v₀ e₀ g₁ v₁ e₁ r → r ≡ Sampled n m
-      → (n * 3 ≤ length g₁) × (n ≤ length v₁) × (m * 3 ≤ length e₁)
-  room {g₀} {v₀} {g₁} {v₁} {e₀} {e₁} {lattice} {r} {n} {m} f s =
-      let g : n * 3 ≤ length g₀ = subst (λ (q : Lattice). nodesIn q * 3 ≤ length g₀) s (f .gridPlaces) in
-      let v : n ≤ length v₀ = subst (λ (q : Lattice). nodesIn q ≤ length v₀) s (f .valuePlaces) in
-      let e : m * 3 ≤ length e₀ = subst (λ (q : Lattice). edgesIn q * 3 ≤ length e₀) s (f .edgePlaces) in
-      (omega (arith, f .gridLength), omega (arith, f .valueLength), omega (arith, f .edgeLength))
+  pub room : {lent after : LatticeLists} {lattice r : Lattice} {n m : ℕ} → FrontsFilled lattice f lent after r → r ≡ Sampled n m
+      → (n * 3 ≤ length (after .grid)) × (n ≤ length (after .values)) × (m * 3 ≤ length (after .edges))
+  room {lent} {after} {lattice} {r} {n} {m} t s =
+      let g : n * 3 ≤ length (lent .grid) = subst (λ (q : Lattice). nodesIn q * 3 ≤ length (lent .grid)) s (t .gridPlaces) in
+      let v : n ≤ length (lent .values) = subst (λ (q : Lattice). nodesIn q ≤ length (lent .values)) s (t .valuePlaces) in
+      let e : m * 3 ≤ length (lent .edges) = subst (λ (q : Lattice). edgesIn q * 3 ≤ length (lent .edges)) s (t .edgePlaces) in
+      (omega (arith, t .gridLength), omega (arith, t .valueLength), omega (arith, t .edgeLength))
 
-  pub called : {g₀ v₀ g₁ v₁ g₂ v₂ : List Float} {e₀ e₁ e₂ : List ℕ} {r q : Lattice}
-      → FrontsFilled (latticeOf qs ns levels bounds cells (length g₀) (length v₀) (length e₀)) qs ns levels bounds cells g₀ v₀ e₀ g₁ v₁ e₁ r → r ≡ q
-      → g₂ ≡ blank plusZero g₁ (nodesIn q * 3) → v₂ ≡ blank plusZero v₁ (nodesIn q) → e₂ ≡ blank 0 e₁ (edgesIn q * 3)
-      → LatticeCall qs ns levels bounds cells g₀ v₀ e₀ g₂ v₂ e₂ q
-  called {g₀} {v₀} {g₁} {v₁} {g₂} {v₂} {e₀} {e₁} {e₂} {r} {q} t s g v e =
-      let f = subst (FrontsFilled (latticeOf qs ns levels bounds cells (length g₀) (length v₀) (length e₀)) qs ns levels bounds cells g₀ v₀ e₀ g₁ v₁ e₁) s t in
+  pub called : {lent filled after : LatticeLists} {r q : Lattice} → FrontsFilled (latticeOf f lent) f lent filled r → r ≡ q
+      → after .grid ≡ blank plusZero (filled .grid) (nodesIn q * 3) → after .values ≡ blank plusZero (filled .values) (nodesIn q) → after .edges ≡ blank 0 (filled .edges) (edgesIn q * 3)
+      → LatticeCall f lent after q
+  called {lent} {filled} {after} {r} {q} t s g v e =
+      let u = subst (FrontsFilled (latticeOf f lent) f lent filled) s t in
       record {
-        answer = f .answer;
-        grid-list = g ∙ behind plusZero g₀ g₁ (nodesIn q * 3) (f .gridLength) (f .gridPlaces) (f .gridFront);
-        value-list = v ∙ behind plusZero v₀ v₁ (nodesIn q) (f .valueLength) (f .valuePlaces) (f .valueFront);
-        edge-list = e ∙ behind 0 e₀ e₁ (edgesIn q * 3) (f .edgeLength) (f .edgePlaces) (f .edgeFront);
+        answer = u .answer;
+        given = record {
+          grid = g ∙ behind plusZero (lent .grid) (filled .grid) (nodesIn q * 3) (u .gridLength) (u .gridPlaces) (u .gridFront);
+          values = v ∙ behind plusZero (lent .values) (filled .values) (nodesIn q) (u .valueLength) (u .valuePlaces) (u .valueFront);
+          edges = e ∙ behind 0 (lent .edges) (filled .edges) (edgesIn q * 3) (u .edgeLength) (u .edgePlaces) (u .edgeFront);
+        };
       }
     where
       behind : {A : Type 0} (z : A) (lent l : List A) {made : List A} (n : ℕ) → length l ≡ length lent → n ≤ length lent → take n l ≡ made → blank z l n ≡ thenBlank z lent made

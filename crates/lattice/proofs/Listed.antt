@@ -13,7 +13,7 @@ use lib.Ieee.{Float}
 use Rattle.lattice.specs.Node.{perSide, cube}
 use Rattle.lattice.specs.Edges.{Edge, crossedEdge?, edgeAt, crossedAmong, crossedEdges}
 use Rattle.lattice.specs.Laws.{sameEdge?, timesListed, EdgeBefore, noEdge, ListsCrossed}
-use Rattle.lattice.specs.Sample.{lowerLevel, upperLevel, latticeValues, latticeEdges}
+use Rattle.lattice.specs.Sample.{SampledField, lowerLevel, upperLevel, latticeValues, latticeEdges}
 use Rattle.lattice.proofs.Noting.{among-few}
 use Rattle.lattice.proofs.Crossing.{crossed-says, says-crossed, same-edge, same-itself, turn, turn-of, at-turn, turn-before}
 
@@ -170,6 +170,6 @@ module _ (n : ℕ) (lower upper : Float) (values : List Float) where
     few = among-few n lower upper values 0 (cube n * 14);
   }
 
-pub lattice-listed : (qs : List Float) (ns : List ℕ) (levels bounds : List Float) (cells : ℕ) → ListsCrossed (perSide cells) (lowerLevel levels) (upperLevel levels) (latticeValues qs ns levels bounds cells) (latticeEdges qs ns levels bounds cells)
+pub lattice-listed : (f : SampledField) → ListsCrossed (perSide (f .cells)) (lowerLevel f) (upperLevel f) (latticeValues f) (latticeEdges f)
 unfolding latticeEdges
-lattice-listed qs ns levels bounds cells = edges-listed (perSide cells) (lowerLevel levels) (upperLevel levels) (latticeValues qs ns levels bounds cells)
+lattice-listed f = edges-listed (perSide (f .cells)) (lowerLevel f) (upperLevel f) (latticeValues f)

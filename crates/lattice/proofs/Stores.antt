@@ -12,7 +12,7 @@ use Rattle.float.specs.declared.Point.{Point}
 use Rattle.field.specs.Sheet.{value}
 use Rattle.lattice.specs.Node.{perSide, nodeAt, node, grid}
 use Rattle.lattice.specs.Values.{sampled}
-use Rattle.lattice.specs.Sample.{nodes, rawValues, latticeValues}
+use Rattle.lattice.specs.Sample.{SampledField, nodes, rawValues, latticeValues}
 use Rattle.lattice.specs.Stages.{indexOf, nextIndex, InLattice, Fillable, NodesFilled}
 use Rattle.lattice.specs.declared.nodes.Index.{Index}
 use Rattle.lattice.proofs.Indices.{first-index, node-inside, next-index}
@@ -88,9 +88,9 @@ module _ (qs : List Float) (ns : List ℕ) (bounds : List Float) (cells : ℕ) w
   unfolding sampled
   sampled-none l = refl
 
-pub values-length : (qs : List Float) (ns : List ℕ) (levels bounds : List Float) (cells : ℕ) → length (latticeValues qs ns levels bounds cells) ≡ nodes cells
+pub values-length : (f : SampledField) → length (latticeValues f) ≡ nodes (f .cells)
 unfolding latticeValues
-values-length qs ns levels bounds cells = length-map (rawValues qs ns bounds cells) _ ∙ sampled-length qs ns bounds cells (nodes cells)
+values-length f = length-map (rawValues f) _ ∙ sampled-length (f .coefficients) (f .powers) (f .bounds) (f .cells) (nodes (f .cells))
 
 -- ---- the loop over nodes: the grid and the values have the nodes so far, and the index is that of the next
 
@@ -146,5 +146,5 @@ module _ (qs : List Float) (ns : List ℕ) (bounds : List Float) (cells : ℕ) (
           gridFront = f .gridFront ∙ ap (λ (k : ℕ). sets g₀ 0 (grid bounds cells k)) e;
           values =
               sym (take-length v) ∙ ap (λ (k : ℕ). take k v) (s ∙ fits .valuePlaces) ∙ ap (take (nodes cells)) (f .valueFront ∙ ap (λ (k : ℕ). sets v₀ 0 (sampled qs ns bounds cells k)) e)
-              ∙ front v₀ (rawValues qs ns bounds cells) (nodes cells) m (omega (arith, fits .valuePlaces));
+              ∙ front v₀ (sampled qs ns bounds cells (nodes cells)) (nodes cells) m (omega (arith, fits .valuePlaces));
         }

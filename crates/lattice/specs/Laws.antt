@@ -12,7 +12,7 @@ use Rattle.float.specs.Order.{isFinite}
 use Rattle.field.specs.Valid.{every, sheetOk}
 use Rattle.lattice.specs.Node.{cube, alongX, alongY, alongZ}
 use Rattle.lattice.specs.Edges.{Edge, stepX, stepY, stepZ, staysInside, stepEnd, levelOf, valueAt}
-use Rattle.lattice.specs.Sample.{nodes, rawValues, latticeEdges}
+use Rattle.lattice.specs.Sample.{SampledField, LatticeLists, nodes, rawValues, latticeEdges}
 
 -- an edge that stays in the lattice, whose label's level is finite, above the value at one end and not above that at the other
 pub record CrossedEdge (n : ℕ) (lower upper : Float) (values : List Float) (e : Edge) : Type 0 where
@@ -56,11 +56,11 @@ pub record StepLaws : Type 0 where
   pub further-z : (n a d : ℕ) → staysInside n a d ≡ true → alongZ n (stepEnd n a d) ≡ alongZ n a + stepZ d
 
 -- a call that passes the questions
-pub record Samples (qs : List Float) (ns : List ℕ) (levels bounds : List Float) (cells gridPlaces valuePlaces edgePlaces : ℕ) : Type 0 where
-  pub sheet : sheetOk qs ns levels bounds ≡ true
-  pub some : 4 ≤ cells
-  pub few : cells ≤ 128
-  pub gridRoom : nodes cells * 3 ≤ gridPlaces
-  pub valueRoom : nodes cells ≤ valuePlaces
-  pub finite : every isFinite (rawValues qs ns bounds cells) ≡ true
-  pub edgeRoom : length (latticeEdges qs ns levels bounds cells) * 3 ≤ edgePlaces
+pub record Samples (f : SampledField) (lent : LatticeLists) : Type 0 where
+  pub sheet : sheetOk (f .coefficients) (f .powers) (f .levels) (f .bounds) ≡ true
+  pub some : 4 ≤ f .cells
+  pub few : f .cells ≤ 128
+  pub gridRoom : nodes (f .cells) * 3 ≤ length (lent .grid)
+  pub valueRoom : nodes (f .cells) ≤ length (lent .values)
+  pub finite : every isFinite (rawValues f) ≡ true
+  pub edgeRoom : length (latticeEdges f) * 3 ≤ length (lent .edges)

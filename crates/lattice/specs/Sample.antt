@@ -10,34 +10,58 @@ use Rattle.blank.specs.Blank.{thenBlank}
 use Rattle.float.specs.Order.{isFinite}
 use Rattle.field.specs.Number.{plusZero}
 use Rattle.field.specs.Valid.{every, sheetOk}
-use Rattle.lattice.specs.Node.{perSide, cube, grid}
+use Rattle.lattice.specs.Node as Node
+use Rattle.lattice.specs.Node.{perSide, cube}
 use Rattle.lattice.specs.Values.{sampled, ontoLevels}
 use Rattle.lattice.specs.Edges.{Edge, crossedEdges, edgeWords}
 use Rattle.lattice.specs.declared.Lattice.{Lattice}
 use Rattle.lattice.specs.declared.Lattice.the-variants.{Sampled, Refused}
+
+-- what a call is told: a field sheet, its levels and its box, and how many cells there are to a side
+pub record SampledField : Type 0 where
+  pub coefficients : List Float
+  pub powers : List ℕ
+  pub levels : List Float
+  pub bounds : List Float
+  pub cells : ℕ
+
+-- the lists that it is lent for its answers
+pub record LatticeLists : Type 0 where
+  pub grid : List Float
+  pub values : List Float
+  pub edges : List ℕ
+
+abbrev pub told : (coefficients : List Float) (powers : List ℕ) (levels bounds : List Float) (cells : ℕ) → SampledField
+told coefficients powers levels bounds cells = record { coefficients = coefficients; powers = powers; levels = levels; bounds = bounds; cells = cells }
+
+abbrev pub lists : (grid values : List Float) (edges : List ℕ) → LatticeLists
+lists grid values edges = record { grid = grid; values = values; edges = edges }
 
 -- ---- the lattice of a field
 
 abbrev pub nodes : ℕ → ℕ
 nodes cells = cube (perSide cells)
 
-abbrev pub lowerLevel : List Float → Float
-lowerLevel levels = getD levels 0 nan
+abbrev pub lowerLevel : SampledField → Float
+lowerLevel f = getD (f .levels) 0 nan
 
-abbrev pub upperLevel : List Float → Float
-upperLevel levels = getD levels 1 nan
+abbrev pub upperLevel : SampledField → Float
+upperLevel f = getD (f .levels) 1 nan
+
+abbrev pub latticeGrid : SampledField → List Float
+latticeGrid f = Node.grid (f .bounds) (f .cells) (nodes (f .cells))
 
 -- the field at all nodes, and those values set onto the levels
-abbrev pub rawValues : List Float → List ℕ → List Float → ℕ → List Float
-rawValues qs ns bounds cells = sampled qs ns bounds cells (nodes cells)
+abbrev pub rawValues : SampledField → List Float
+rawValues f = sampled (f .coefficients) (f .powers) (f .bounds) (f .cells) (nodes (f .cells))
 
-unfoldable pub latticeValues : List Float → List ℕ → List Float → List Float → ℕ → List Float
+unfoldable pub latticeValues : SampledField → List Float
 unfolding sampled
-latticeValues qs ns levels bounds cells = ontoLevels (lowerLevel levels) (upperLevel levels) (rawValues qs ns bounds cells)
+latticeValues f = ontoLevels (lowerLevel f) (upperLevel f) (rawValues f)
 
-unfoldable pub latticeEdges : List Float → List ℕ → List Float → List Float → ℕ → List Edge
+unfoldable pub latticeEdges : SampledField → List Edge
 unfolding latticeValues
-latticeEdges qs ns levels bounds cells = crossedEdges (perSide cells) (lowerLevel levels) (upperLevel levels) (latticeValues qs ns levels bounds cells)
+latticeEdges f = crossedEdges (perSide (f .cells)) (lowerLevel f) (upperLevel f) (latticeValues f)
 
 -- ---- the answer
 
@@ -46,25 +70,25 @@ abbrev pub orRefused : Bool → ℕ → Lattice → Lattice
 orRefused answer number later = cond answer later (Refused number)
 
 -- the questions that are answered on the way; else how many nodes there are and how many crossed edges
-unfoldable pub afterNodes : List Float → List ℕ → List Float → List Float → ℕ → (edgePlaces : ℕ) → Lattice
+unfoldable pub afterNodes : SampledField → (edgePlaces : ℕ) → Lattice
 unfolding every latticeEdges
-afterNodes qs ns levels bounds cells edgePlaces =
+afterNodes f edgePlaces =
     -- Is every value finite?
-    orRefused (every isFinite (rawValues qs ns bounds cells)) 36
+    orRefused (every isFinite (rawValues f)) 36
     -- Has the edge list room?
-    (orRefused (leb (length (latticeEdges qs ns levels bounds cells) * 3) edgePlaces) 35
-    (Sampled (nodes cells) (length (latticeEdges qs ns levels bounds cells))))
+    (orRefused (leb (length (latticeEdges f) * 3) edgePlaces) 35
+    (Sampled (nodes (f .cells)) (length (latticeEdges f))))
 
-unfoldable pub latticeOf : List Float → List ℕ → List Float → List Float → ℕ → (gridPlaces valuePlaces edgePlaces : ℕ) → Lattice
+unfoldable pub latticeOf : SampledField → LatticeLists → Lattice
 unfolding sheetOk afterNodes
-latticeOf qs ns levels bounds cells gridPlaces valuePlaces edgePlaces =
+latticeOf f lent =
     -- Field sheet, levels and box as document 01 has them?
-    orRefused (sheetOk qs ns levels bounds) 13
+    orRefused (sheetOk (f .coefficients) (f .powers) (f .levels) (f .bounds)) 13
     -- 4 to 128 cells?
-    (orRefused (leb 4 cells && leb cells 128) 34
+    (orRefused (leb 4 (f .cells) && leb (f .cells) 128) 34
     -- Have grid and value list room?
-    (orRefused (leb (nodes cells * 3) gridPlaces && leb (nodes cells) valuePlaces) 35
-    (afterNodes qs ns levels bounds cells edgePlaces)))
+    (orRefused (leb (nodes (f .cells) * 3) (length (lent .grid)) && leb (nodes (f .cells)) (length (lent .values))) 35
+    (afterNodes f (length (lent .edges)))))
 
 -- 0 where the field is sampled, else the number of the refusal
 abbrev pub latticeNumber : Lattice → ℕ
@@ -76,14 +100,20 @@ abbrev pub latticeCounts : Lattice → List ℕ
 latticeCounts (Sampled nodes edges) = nodes ∷ nodes ∷ edges ∷ []
 latticeCounts (Refused number) = 0 ∷ 0 ∷ 0 ∷ []
 
+-- ---- the lists afterwards
+
 -- what a list is given: nothing after a refusal
 abbrev pub whenSampled : {A : Type 0} → Lattice → List A → List A
 whenSampled (Sampled nodes edges) l = l
 whenSampled (Refused number) l = []
 
--- What `sample` promises of every call: its answer, and the lists, which are 0 behind what they are given.
-pub record LatticeCall (qs : List Float) (ns : List ℕ) (levels bounds : List Float) (cells : ℕ) (grid₀ values₀ : List Float) (edges₀ : List ℕ) (grid₁ values₁ : List Float) (edges₁ : List ℕ) (r : Lattice) : Type 0 where
-  pub answer : r ≡ latticeOf qs ns levels bounds cells (length grid₀) (length values₀) (length edges₀)
-  pub grid-list : grid₁ ≡ thenBlank plusZero grid₀ (whenSampled r (grid bounds cells (nodes cells)))
-  pub value-list : values₁ ≡ thenBlank plusZero values₀ (whenSampled r (latticeValues qs ns levels bounds cells))
-  pub edge-list : edges₁ ≡ thenBlank 0 edges₀ (edgeWords (whenSampled r (latticeEdges qs ns levels bounds cells)))
+-- each list is what it is given, then 0
+pub record LatticeGiven (r : Lattice) (f : SampledField) (lent after : LatticeLists) : Type 0 where
+  pub grid : after .grid ≡ thenBlank plusZero (lent .grid) (whenSampled r (latticeGrid f))
+  pub values : after .values ≡ thenBlank plusZero (lent .values) (whenSampled r (latticeValues f))
+  pub edges : after .edges ≡ thenBlank 0 (lent .edges) (edgeWords (whenSampled r (latticeEdges f)))
+
+-- What `sample` promises of every call.
+pub record LatticeCall (f : SampledField) (lent after : LatticeLists) (r : Lattice) : Type 0 where
+  pub answer : r ≡ latticeOf f lent
+  pub given : LatticeGiven r f lent after

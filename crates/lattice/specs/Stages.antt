@@ -8,8 +8,9 @@ use lib.ListN.{length, take}
 use lib.Seq.{sets}
 use lib.Ieee.{Float}
 use Rattle.lattice.specs.Node.{cube, alongX, alongY, alongZ, grid}
+use Rattle.lattice.specs.Values.{sampled}
 use Rattle.lattice.specs.Edges.{Edge, staysInside, stepEnd, edgeWords}
-use Rattle.lattice.specs.Sample.{nodes, rawValues, latticeValues, latticeEdges, whenSampled}
+use Rattle.lattice.specs.Sample.{SampledField, LatticeLists, nodes, latticeGrid, latticeValues, latticeEdges, whenSampled}
 use Rattle.lattice.specs.declared.Lattice.{Lattice}
 use Rattle.lattice.specs.declared.Lattice.the-variants.{Sampled, Refused}
 use Rattle.lattice.specs.declared.nodes.Index.{Index}
@@ -49,7 +50,7 @@ pub record Fillable (cells : ℕ) (grid₀ values₀ : List Float) : Type 0 wher
 
 pub record NodesFilled (qs : List Float) (ns : List ℕ) (bounds : List Float) (cells : ℕ) (grid₀ grid₁ values₀ values₁ : List Float) : Type 0 where
   pub gridFront : grid₁ ≡ sets grid₀ 0 (grid bounds cells (nodes cells))
-  pub values : values₁ ≡ rawValues qs ns bounds cells
+  pub values : values₁ ≡ sampled qs ns bounds cells (nodes cells)
 
 -- ---- edges
 
@@ -74,14 +75,14 @@ edgesIn (Sampled nodes edges) = edges
 edgesIn (Refused number) = 0
 
 -- the answer is `lattice`, and the fronts of the lists have what it counts
-pub record FrontsFilled (lattice : Lattice) (qs : List Float) (ns : List ℕ) (levels bounds : List Float) (cells : ℕ) (grid₀ values₀ : List Float) (edges₀ : List ℕ) (grid₁ values₁ : List Float) (edges₁ : List ℕ) (r : Lattice) : Type 0 where
+pub record FrontsFilled (lattice : Lattice) (f : SampledField) (lent after : LatticeLists) (r : Lattice) : Type 0 where
   pub answer : r ≡ lattice
-  pub gridLength : length grid₁ ≡ length grid₀
-  pub valueLength : length values₁ ≡ length values₀
-  pub edgeLength : length edges₁ ≡ length edges₀
-  pub gridPlaces : nodesIn r * 3 ≤ length grid₀
-  pub valuePlaces : nodesIn r ≤ length values₀
-  pub edgePlaces : edgesIn r * 3 ≤ length edges₀
-  pub gridFront : take (nodesIn r * 3) grid₁ ≡ whenSampled r (grid bounds cells (nodes cells))
-  pub valueFront : take (nodesIn r) values₁ ≡ whenSampled r (latticeValues qs ns levels bounds cells)
-  pub edgeFront : take (edgesIn r * 3) edges₁ ≡ edgeWords (whenSampled r (latticeEdges qs ns levels bounds cells))
+  pub gridLength : length (after .grid) ≡ length (lent .grid)
+  pub valueLength : length (after .values) ≡ length (lent .values)
+  pub edgeLength : length (after .edges) ≡ length (lent .edges)
+  pub gridPlaces : nodesIn r * 3 ≤ length (lent .grid)
+  pub valuePlaces : nodesIn r ≤ length (lent .values)
+  pub edgePlaces : edgesIn r * 3 ≤ length (lent .edges)
+  pub gridFront : take (nodesIn r * 3) (after .grid) ≡ whenSampled r (latticeGrid f)
+  pub valueFront : take (nodesIn r) (after .values) ≡ whenSampled r (latticeValues f)
+  pub edgeFront : take (edgesIn r * 3) (after .edges) ≡ edgeWords (whenSampled r (latticeEdges f))

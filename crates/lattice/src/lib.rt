@@ -9,7 +9,7 @@ use edges::note_edges;
 use levels::set_onto_levels;
 use nodes::fill_nodes;
 ghost use lib.ListN.{length};
-ghost use Rattle.lattice.specs.Sample.{LatticeCall, latticeOf, afterNodes};
+ghost use Rattle.lattice.specs.Sample.{told, lists, afterNodes, latticeOf, LatticeCall};
 ghost use Rattle.lattice.specs.Stages.{Fillable, FrontsFilled};
 
 // How many nodes and how many crossed edges the lists have, or the number of the refusal.
@@ -30,7 +30,7 @@ fn fill(
     edges: &mut [u32],
 ) -> Lattice
     requires { ⌜ Fillable cells (now grid) (now values) ⌝ }
-    ensures { λ r. ⌜ FrontsFilled (afterNodes (now (coefficients .entry)) (now (powers .entry)) (now (levels .entry)) (now (bounds .entry)) cells (length (now (edges .entry)))) (now (coefficients .entry)) (now (powers .entry)) (now (levels .entry)) (now (bounds .entry)) cells (now (grid .entry)) (now (values .entry)) (now (edges .entry)) (now (grid .exit)) (now (values .exit)) (now (edges .exit)) r ⌝ }
+    ensures { λ r. ⌜ FrontsFilled (afterNodes (told (now (coefficients .entry)) (now (powers .entry)) (now (levels .entry)) (now (bounds .entry)) cells) (length (now (edges .entry)))) (told (now (coefficients .entry)) (now (powers .entry)) (now (levels .entry)) (now (bounds .entry)) cells) (lists (now (grid .entry)) (now (values .entry)) (now (edges .entry))) (lists (now (grid .exit)) (now (values .exit)) (now (edges .exit))) r ⌝ }
 {
     fill_nodes(coefficients, powers, bounds, cells, grid, values);
     if !field::all_finite(values) {
@@ -57,7 +57,7 @@ fn ask_and_fill(
     values: &mut [f64],
     edges: &mut [u32],
 ) -> Lattice
-    ensures { λ r. ⌜ FrontsFilled (latticeOf (now (coefficients .entry)) (now (powers .entry)) (now (levels .entry)) (now (bounds .entry)) cells (length (now (grid .entry))) (length (now (values .entry))) (length (now (edges .entry)))) (now (coefficients .entry)) (now (powers .entry)) (now (levels .entry)) (now (bounds .entry)) cells (now (grid .entry)) (now (values .entry)) (now (edges .entry)) (now (grid .exit)) (now (values .exit)) (now (edges .exit)) r ⌝ }
+    ensures { λ r. ⌜ FrontsFilled (latticeOf (told (now (coefficients .entry)) (now (powers .entry)) (now (levels .entry)) (now (bounds .entry)) cells) (lists (now (grid .entry)) (now (values .entry)) (now (edges .entry)))) (told (now (coefficients .entry)) (now (powers .entry)) (now (levels .entry)) (now (bounds .entry)) cells) (lists (now (grid .entry)) (now (values .entry)) (now (edges .entry))) (lists (now (grid .exit)) (now (values .exit)) (now (edges .exit))) r ⌝ }
 {
     if !field::sheet_ok(coefficients, powers, levels, bounds) {
         return Lattice::Refused(13);
@@ -100,7 +100,7 @@ pub fn sample(
     values: &mut [f64],
     edges: &mut [u32],
 ) -> Lattice
-    ensures { λ r. ⌜ LatticeCall (now (coefficients .entry)) (now (powers .entry)) (now (levels .entry)) (now (bounds .entry)) cells (now (grid .entry)) (now (values .entry)) (now (edges .entry)) (now (grid .exit)) (now (values .exit)) (now (edges .exit)) r ⌝ }
+    ensures { λ r. ⌜ LatticeCall (told (now (coefficients .entry)) (now (powers .entry)) (now (levels .entry)) (now (bounds .entry)) cells) (lists (now (grid .entry)) (now (values .entry)) (now (edges .entry))) (lists (now (grid .exit)) (now (values .exit)) (now (edges .exit))) r ⌝ }
 {
     match ask_and_fill(
         coefficients,

@@ -4,6 +4,7 @@ use Prim.Native.Nat.{_+_}
 use native.Mathlib.Omega.{arith}
 use lib.Seq.{length-take-le}
 use Rattle.field.proofs.Checks.{failed, held}
+use Rattle.lattice.specs.Sample.{SampledField, LatticeLists, told, lists}
 use Rattle.lattice.proofs.Indices.{square-small, cube-small}
 use Rattle.lattice.proofs.Call.{refused, refused-13, too-few, too-many, short-grid, short-values, lent-front}
 use borrow.Author.Needs.{needs}
@@ -12,6 +13,12 @@ use Rattle.lattice.proofs.ask_and_fill.Tie as tie
 
 abbrev start : tie.After-sheet-ok → tie.Start
 start c = c .before .before .before .before .before .before
+
+abbrev field : tie.After-sheet-ok → SampledField
+field c = let a = start c .args in told (a .coefficients .now) (a .powers .now) (a .levels .now) (a .bounds .now) (a .cells)
+
+abbrev lent : tie.After-sheet-ok → LatticeLists
+lent c = let a = start c .args in lists (a .grid .now) (a .values .now) (a .edges .now)
 
 abbrev asked : tie.Else3 → tie.After-sheet-ok
 asked c = c .before .before .before
@@ -22,20 +29,17 @@ sheet-ok-requires c κs = search needs
 returns : tie.Need-returns
 returns c =
     let s = c .before in
-    let a = start s .args in
-    refused _ _ _ _ _ _ 13 (refused-13 _ _ (a .levels .now) (a .bounds .now) (a .cells) (a .grid .now) (a .values .now) (a .edges .now) (failed (s .sheet-ok .ensures) (c .if1 .taken))) refl refl refl
+    refused _ _ 13 (refused-13 (field s) (lent s) (failed (s .sheet-ok .ensures) (c .if1 .taken))) refl refl refl
 
 returns-2 : tie.Need-returns-2
 returns-2 c =
     let s = c .before .before in
-    let a = start s .args in
-    refused _ _ _ _ _ _ 34 (too-few _ _ (a .levels .now) (a .bounds .now) (a .cells) (a .grid .now) (a .values .now) (a .edges .now) (held (s .sheet-ok .ensures) (c .before .if1 .left)) (c .if2 .taken)) refl refl refl
+    refused _ _ 34 (too-few (field s) (lent s) (held (s .sheet-ok .ensures) (c .before .if1 .left)) (c .if2 .taken)) refl refl refl
 
 returns-3 : tie.Need-returns-3
 returns-3 c =
     let s = c .before .before .before in
-    let a = start s .args in
-    refused _ _ _ _ _ _ 34 (too-many _ _ (a .levels .now) (a .bounds .now) (a .cells) (a .grid .now) (a .values .now) (a .edges .now) (held (s .sheet-ok .ensures) (c .before .before .if1 .left)) (c .before .if2 .left) (c .if3 .taken)) refl refl refl
+    refused _ _ 34 (too-many (field s) (lent s) (held (s .sheet-ok .ensures) (c .before .before .if1 .left)) (c .before .if2 .left) (c .if3 .taken)) refl refl refl
 
 add-n : tie.Need-add-n
 add-n c = search needs
@@ -64,14 +68,12 @@ mul-if4 c =
 returns-4 : tie.Need-returns-4
 returns-4 c =
     let s = asked (c .before) in
-    let a = start s .args in
-    refused _ _ _ _ _ _ 35 (short-grid _ _ (a .levels .now) (a .bounds .now) (a .cells) (a .grid .now) (a .values .now) (a .edges .now) (held (s .sheet-ok .ensures) (c .before .before .before .if1 .left)) (c .before .before .if2 .left) (c .before .if3 .left) (c .if4 .taken)) refl refl refl
+    refused _ _ 35 (short-grid (field s) (lent s) (held (s .sheet-ok .ensures) (c .before .before .before .if1 .left)) (c .before .before .if2 .left) (c .before .if3 .left) (c .if4 .taken)) refl refl refl
 
 returns-5 : tie.Need-returns-5
 returns-5 c =
     let s = asked (c .before .before) in
-    let a = start s .args in
-    refused _ _ _ _ _ _ 35 (short-values _ _ (a .levels .now) (a .bounds .now) (a .cells) (a .grid .now) (a .values .now) (a .edges .now) (held (s .sheet-ok .ensures) (c .before .before .before .before .if1 .left)) (c .before .before .before .if2 .left) (c .before .before .if3 .left) (c .before .if4 .left) (c .if5 .taken)) refl refl refl
+    refused _ _ 35 (short-values (field s) (lent s) (held (s .sheet-ok .ensures) (c .before .before .before .before .if1 .left)) (c .before .before .before .if2 .left) (c .before .before .if3 .left) (c .before .if4 .left) (c .if5 .taken)) refl refl refl
 
 slice-relend-prefix-fill : tie.Need-slice-relend-prefix-fill
 slice-relend-prefix-fill c = search needs
@@ -95,8 +97,7 @@ returns-6 : tie.Need-returns-6
 returns-6 c =
     let e = c .before .before .before .before .before .before .before .before .before .before in
     let s = asked (e .before .before) in
-    let a = start s .args in
-    lent-front _ _ (a .levels .now) (a .bounds .now) (a .cells) (a .grid .now) (a .values .now) (a .edges .now) (held (s .sheet-ok .ensures) (e .before .before .before .before .if1 .left)) (e .before .before .before .if2 .left) (e .before .before .if3 .left) (e .before .if4 .left) (e .if5 .left)
+    lent-front (field s) (lent s) (held (s .sheet-ok .ensures) (e .before .before .before .before .if1 .left)) (e .before .before .before .if2 .left) (e .before .before .if3 .left) (e .before .if4 .left) (e .if5 .left)
     (c .before .before .before .before .before .before .fill .ensures)
 
 pub ask-and-fill-spec : {M : Type 1} → statement M

@@ -1,6 +1,7 @@
 -- `lattice::fill` meets its contract. Assumes nothing.
 use mathlib.Core.Path.{_∙_}
 use native.Mathlib.Omega.{arith}
+use Rattle.lattice.specs.Sample.{SampledField, told}
 use Rattle.lattice.proofs.Call.{fills-36, few-found, fills-35, fills-all}
 use borrow.Author.Needs.{needs}
 use Rattle.lattice.proofs.fill.Statement.{statement}
@@ -11,6 +12,9 @@ filled c = c .before .before .before .before .before .before
 
 abbrev start : tie.After-fill-nodes → tie.Start
 start c = c .before .before .before .before .before .before .before .before
+
+abbrev field : tie.After-fill-nodes → SampledField
+field c = let a = start c .args in told (a .coefficients .now) (a .powers .now) (a .levels .now) (a .bounds .now) (a .cells)
 
 abbrev settled : tie.After-slice-known7 → tie.After-set-onto-levels
 settled c = c .before .before .before .before .before .before .before
@@ -33,7 +37,7 @@ same-length-2 c = search needs
 returns : tie.Need-returns
 returns c =
     let n = filled (c .before) in
-    fills-36 _ _ _ _ _ (start n .pre) (n .fill-nodes .ensures) _ (c .before .all-finite .ensures) (n .fill-nodes .kept .1 .1 .1 .1 .1 .0) (c .if1 .taken)
+    fills-36 (field n) (start n .pre) (n .fill-nodes .ensures) _ (c .before .all-finite .ensures) (n .fill-nodes .kept .1 .1 .1 .1 .1 .0) (c .if1 .taken)
 
 element-copy-out-lower : tie.Need-element-copy-out-lower
 element-copy-out-lower c = search needs
@@ -56,7 +60,7 @@ mul-if2 c =
     let t = tested s in
     let n = filled (t .before) in
     let same = s .set-onto-levels .kept .0 ∙ n .fill-nodes .kept .1 .1 .1 .1 .1 .0 in
-    let few = few-found _ _ (start n .args .levels .now) _ _ (start n .pre) (n .fill-nodes .ensures) _ (t .before .all-finite .ensures) (t .if1 .left) (s .set-onto-levels .ensures) same (c .before .before .note-edges .ensures) in
+    let few = few-found (field n) (start n .pre) (n .fill-nodes .ensures) _ (t .before .all-finite .ensures) (t .if1 .left) (s .set-onto-levels .ensures) same (c .before .before .note-edges .ensures) in
     omega arith
 
 same-length-3 : tie.Need-same-length-3
@@ -74,7 +78,7 @@ returns-2 c =
     let t = tested s in
     let n = filled (t .before) in
     let same = s .set-onto-levels .kept .0 ∙ n .fill-nodes .kept .1 .1 .1 .1 .1 .0 in
-    fills-35 _ _ (start n .args .levels .now) _ _ (start n .pre) (n .fill-nodes .ensures) _ (t .before .all-finite .ensures) (t .if1 .left) (s .set-onto-levels .ensures) same (c .before .before .before .note-edges .ensures) (c .if2 .taken)
+    fills-35 (field n) (start n .pre) (n .fill-nodes .ensures) _ (t .before .all-finite .ensures) (t .if1 .left) (s .set-onto-levels .ensures) same (c .before .before .before .note-edges .ensures) (c .if2 .taken)
 
 same-length-6 : tie.Need-same-length-6
 same-length-6 c = search needs
@@ -91,7 +95,7 @@ returns-3 c =
     let t = tested s in
     let n = filled (t .before) in
     let same = s .set-onto-levels .kept .0 ∙ n .fill-nodes .kept .1 .1 .1 .1 .1 .0 in
-    fills-all _ _ (start n .args .levels .now) _ _ (start n .pre) (n .fill-nodes .ensures) _ (t .before .all-finite .ensures) (t .if1 .left) (s .set-onto-levels .ensures) same (c .before .before .before .note-edges .ensures) (c .if2 .left)
+    fills-all (field n) (start n .pre) (n .fill-nodes .ensures) _ (t .before .all-finite .ensures) (t .if1 .left) (s .set-onto-levels .ensures) same (c .before .before .before .note-edges .ensures) (c .if2 .left)
 
 pub fill-spec : {M : Type 1} → statement M
 fill-spec =

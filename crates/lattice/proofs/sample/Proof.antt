@@ -15,19 +15,19 @@ enum-known-nodes : tie.Need-enum-known-nodes
 enum-known-nodes c = search needs
 
 mul-blank-numbers : tie.Need-mul-blank-numbers
-mul-blank-numbers c = let n = c .before .before in let f = room _ _ _ _ _ (picked n .ask-and-fill .ensures) (n .nodes .given .1) in omega (arith, picked n .before .before .before .before .before .before .before .before .before .good, picked n .ask-and-fill .kept .1 .1 .1 .1 .1 .0)
+mul-blank-numbers c = let n = c .before .before in let f = room _ (picked n .ask-and-fill .ensures) (n .nodes .given .1) in omega (arith, picked n .before .before .before .before .before .before .before .before .before .good, picked n .ask-and-fill .kept .1 .1 .1 .1 .1 .0)
 
 blank-numbers-requires : tie.Need-blank-numbers-requires
-blank-numbers-requires c κs = let n = c .before .before in let f = room _ _ _ _ _ (picked n .ask-and-fill .ensures) (n .nodes .given .1) in omega arith
+blank-numbers-requires c κs = let n = c .before .before in let f = room _ (picked n .ask-and-fill .ensures) (n .nodes .given .1) in omega arith
 
 blank-numbers-requires-2 : tie.Need-blank-numbers-requires-2
-blank-numbers-requires-2 c κs = let n = c .before .before .before .before .before .before in let f = room _ _ _ _ _ (picked n .ask-and-fill .ensures) (n .nodes .given .1) in omega arith
+blank-numbers-requires-2 c κs = let n = c .before .before .before .before .before .before in let f = room _ (picked n .ask-and-fill .ensures) (n .nodes .given .1) in omega arith
 
 mul-blank-words : tie.Need-mul-blank-words
-mul-blank-words c = let n = c .before .before .before .before .before .before .before .before .before .before in let f = room _ _ _ _ _ (picked n .ask-and-fill .ensures) (n .nodes .given .1) in omega (arith, picked n .before .before .before .before .before .before .before .before .before .good, picked n .ask-and-fill .kept .1 .1 .1 .1 .1 .1 .1 .0)
+mul-blank-words c = let n = c .before .before .before .before .before .before .before .before .before .before in let f = room _ (picked n .ask-and-fill .ensures) (n .nodes .given .1) in omega (arith, picked n .before .before .before .before .before .before .before .before .before .good, picked n .ask-and-fill .kept .1 .1 .1 .1 .1 .1 .1 .0)
 
 blank-words-requires : tie.Need-blank-words-requires
-blank-words-requires c κs = let n = c .before .before .before .before .before .before .before .before .before .before in let f = room _ _ _ _ _ (picked n .ask-and-fill .ensures) (n .nodes .given .1) in omega arith
+blank-words-requires c κs = let n = c .before .before .before .before .before .before .before .before .before .before in let f = room _ (picked n .ask-and-fill .ensures) (n .nodes .given .1) in omega arith
 
 enum-known-why : tie.Need-enum-known-why
 enum-known-why c = search needs
@@ -56,7 +56,7 @@ returns c =
     let v = w .before .before .before .before in
     let g = v .before .before .before .before in
     let n = g .before .before .before in
-    called _ _ _ _ _ (picked n .ask-and-fill .ensures) (n .nodes .given .1) (g .blank-numbers .ensures) (v .blank-numbers2 .ensures) (w .blank-words .ensures)
+    called _ (picked n .ask-and-fill .ensures) (n .nodes .given .1) (g .blank-numbers .ensures) (v .blank-numbers2 .ensures) (w .blank-words .ensures)
 
 same-length-4 : tie.Need-same-length-4
 same-length-4 c = search needs
@@ -73,7 +73,7 @@ returns-2 c =
     let v = w .before .before .before .before in
     let g = v .before .before .before .before in
     let n = g .before .before .before in
-    called _ _ _ _ _ (n .before .before .before .before .before .before .before .before .ask-and-fill .ensures) (n .why .given .1) (g .blank-numbers3 .ensures) (v .blank-numbers4 .ensures) (w .blank-words2 .ensures)
+    called _ (n .before .before .before .before .before .before .before .before .ask-and-fill .ensures) (n .why .given .1) (g .blank-numbers3 .ensures) (v .blank-numbers4 .ensures) (w .blank-words2 .ensures)
 
 pub sample-spec : {M : Type 1} → statement M
 sample-spec =
