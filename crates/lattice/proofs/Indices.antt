@@ -11,7 +11,7 @@ use borrow.Author.Tests.{leb-true, ltb-true, ltb-false, lt-ltb, le-ltb}
 use Rattle.surface.proofs.Bools.{both}
 use Rattle.field.specs.Valid.{every}
 use Rattle.lattice.specs.Node.{cube, alongX, alongY, alongZ}
-use Rattle.lattice.specs.Edges.{stepX, stepY, stepZ, staysInside, stepEnd}
+use Rattle.lattice.specs.Edges.{stepX, stepY, stepZ, staysInside, offset, stepEnd}
 use Rattle.lattice.specs.Laws.{StepLaws}
 use Rattle.lattice.specs.Stages.{indexOf, nextIndex, endOrStart, InLattice, AtNode}
 use Rattle.lattice.specs.declared.nodes.Index.{Index}
@@ -173,9 +173,9 @@ module _ (n a d : ℕ) (p : Index) (s : AtNode n a p) (x y z : ℕ) (ex : x ≡ 
   pub off-z : n ≤ p .z + z → a ≡ endOrStart n a d
   off-z h = rw (le-ltb (alongZ n a + stepZ d) n (subst (λ (i : ℕ). n ≤ i) sz h), and-false (ltb (alongY n a + stepY d) n), and-false (ltb (alongX n a + stepX d) n)) refl
 
-  pub stays : p .x + x < n → p .y + y < n → p .z + z < n → a + (x + n * y + n * n * z) ≡ endOrStart n a d
-  stays hx hy hz =
-      ap (λ (m : ℕ). a + (m + n * y + n * n * z)) ex ∙ ap (λ (m : ℕ). a + (stepX d + n * m + n * n * z)) ey ∙ ap (λ (m : ℕ). a + (stepX d + n * stepY d + n * n * m)) ez
+  pub stays : (o : ℕ) → o ≡ offset n d → p .x + x < n → p .y + y < n → p .z + z < n → a + o ≡ endOrStart n a d
+  stays o e hx hy hz =
+      ap (λ (m : ℕ). a + m) e
       ∙ rw (lt-ltb (alongX n a + stepX d) n (subst (λ (i : ℕ). i < n) sx hx), lt-ltb (alongY n a + stepY d) n (subst (λ (i : ℕ). i < n) sy hy), lt-ltb (alongZ n a + stepZ d) n (subst (λ (i : ℕ). i < n) sz hz)) refl
 
 -- a test that is passed, along x, y and z
@@ -229,3 +229,9 @@ small n d x y z few ex ey ez =
     let hy : y ≤ 1 = omega (arith, at-most-one (0 ∷ 1 ∷ 0 ∷ 1 ∷ 0 ∷ 1 ∷ 1 ∷ []) refl d) in
     let hz : z ≤ 1 = omega (arith, at-most-one (0 ∷ 0 ∷ 1 ∷ 0 ∷ 1 ∷ 1 ∷ 1 ∷ []) refl d) in
     record { alongX = hx; alongY = hy; alongZ = hz; rows = mul-le-mul few hy; square = q; layers = mul-le-mul q hz }
+
+pub offset-small : (n d : ℕ) → n ≤ 129 → offset n d ≤ 16771
+offset-small n d few = let s = small n d (stepX d) (stepY d) (stepZ d) few refl refl refl in omega arith
+
+pub offset-is : (n d x y z : ℕ) → x ≡ stepX d → y ≡ stepY d → z ≡ stepZ d → x + n * y + n * n * z ≡ offset n d
+offset-is n d x y z ex ey ez = ap (λ (m : ℕ). m + n * y + n * n * z) ex ∙ ap (λ (m : ℕ). stepX d + n * m + n * n * z) ey ∙ ap (λ (m : ℕ). stepX d + n * stepY d + n * n * m) ez

@@ -42,14 +42,14 @@ magnitude-else (fin true m e) q r = absurd (true≢false (sym level ∙ r))
 doubled : (x p : ℕ) → 0 < p → x ≡ 2 * p → x ≡ 1 → ⊥
 doubled x p h e q = omega arith
 
-edgeWords : (e : ℤ) → up e * down e ≡ 1 → e ≡ pos 0
-edgeWords (pos zero) h = refl
-edgeWords (pos (suc k)) h = absurd (doubled (2 ^ suc k) (2 ^ k) (pow-pos k) (pow-succ' 2 k) (sym (mul-one (2 ^ suc k)) ∙ h))
-edgeWords (negsuc k) h = absurd (doubled (2 ^ suc k) (2 ^ k) (pow-pos k) (pow-succ' 2 k) (sym (one-mul (2 ^ suc k)) ∙ h))
+unit-exponent : (e : ℤ) → up e * down e ≡ 1 → e ≡ pos 0
+unit-exponent (pos zero) h = refl
+unit-exponent (pos (suc k)) h = absurd (doubled (2 ^ suc k) (2 ^ k) (pow-pos k) (pow-succ' 2 k) (sym (mul-one (2 ^ suc k)) ∙ h))
+unit-exponent (negsuc k) h = absurd (doubled (2 ^ suc k) (2 ^ k) (pow-pos k) (pow-succ' 2 k) (sym (one-mul (2 ^ suc k)) ∙ h))
 
 zero-exponent : (s : Bool) (e : ℤ) → T (fits binary64 (fin s zero e)) → e ≡ pos 0
 unfolding fits
-zero-exponent s e f = edgeWords e (eqb→eq (up e * down e) 1 f)
+zero-exponent s e f = unit-exponent e (eqb→eq (up e * down e) 1 f)
 
 pub magnitude-zero : (x : Float) → T (fits binary64 x) → eq x plusZero ≡ true → plusZero ≡ magnitude x
 unfolding eq magnitude ofBits

@@ -27,12 +27,15 @@ stepY d = getD (0 ∷ 1 ∷ 0 ∷ 1 ∷ 0 ∷ 1 ∷ 1 ∷ []) d 0
 abbrev pub stepZ : ℕ → ℕ
 stepZ d = getD (0 ∷ 0 ∷ 1 ∷ 0 ∷ 1 ∷ 1 ∷ 1 ∷ []) d 0
 
--- whether the step d from node a stays in the lattice of n nodes to a side, and the node where it ends
+-- whether the step d from node a stays in the lattice of n nodes to a side, how far it goes on in their numbers, and the node where it ends
 abbrev pub staysInside : ℕ → ℕ → ℕ → Bool
 staysInside n a d = ltb (alongX n a + stepX d) n && (ltb (alongY n a + stepY d) n && ltb (alongZ n a + stepZ d) n)
 
+abbrev pub offset : ℕ → ℕ → ℕ
+offset n d = stepX d + n * stepY d + n * n * stepZ d
+
 abbrev pub stepEnd : ℕ → ℕ → ℕ → ℕ
-stepEnd n a d = a + (stepX d + n * stepY d + n * n * stepZ d)
+stepEnd n a d = a + offset n d
 
 -- ---- crossings
 

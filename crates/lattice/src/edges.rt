@@ -35,6 +35,17 @@ fn step_z(d: usize) -> usize
     steps[d]
 }
 
+// How far the step d goes on in the numbers of nodes.
+pub fn offset(n: usize, d: usize) -> usize
+    requires { ⌜ (n ≤ 129) × (d < 7) ⌝ }
+    ensures { λ r. ⌜ r ≡ Edges.offset n d ⌝ }
+{
+    let x = step_x(d);
+    let y = step_y(d);
+    let z = step_z(d);
+    x + n * y + n * n * z
+}
+
 // Whether a level is finite and has one of two values below it and the other not. That it is finite is asked last,
 // since of most edges both values are on one side.
 fn crossed_by(level: f64, v: f64, w: f64) -> bool
@@ -97,7 +108,7 @@ fn step_end(n: usize, a: usize, p: Index, d: usize) -> usize
     if n <= p.z + z {
         return a;
     }
-    a + (x + n * y + n * n * z)
+    a + offset(n, d)
 }
 
 // The edges from node a of index p by the step d: label 0 is the upper level, 1 the lower.

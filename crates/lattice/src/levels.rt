@@ -1,9 +1,9 @@
-// Values near a level, set onto it.
+// Magnitudes and tolerances, and values near a level set onto it.
 ghost use mathlib.Core.Path.{_≡_};
 ghost use Rattle.lattice.specs.Values as Values;
 
 // |x|. Of -0 it is +0.
-fn magnitude(x: f64) -> f64
+pub fn magnitude(x: f64) -> f64
     ensures { λ r. ⌜ r ≡ Values.magnitude x ⌝ }
 {
     if x < 0.0 {
@@ -38,6 +38,13 @@ fn with_level(s: f64, level: f64) -> f64
     s
 }
 
+// How near is near, by the scale of what is compared: 2^-46 of it.
+pub fn tolerance(scale: f64) -> f64
+    ensures { λ r. ⌜ r ≡ Values.tolerance scale ⌝ }
+{
+    64.0 * 2.220446049250313e-16 * scale
+}
+
 // Whether a value is within t of a finite level.
 fn near(t: f64, level: f64, v: f64) -> bool
     ensures { λ r. ⌜ r ≡ Values.nearLevel? t level v ⌝ }
@@ -64,7 +71,7 @@ pub fn set_onto_levels(values: &mut [f64], lower: f64, upper: f64)
     ensures { λ _. ⌜ now (values .exit) ≡ Values.ontoLevels lower upper (now (values .entry)) ⌝ }
 {
     let scale = with_level(with_level(largest(values), lower), upper);
-    let t = 64.0 * 2.220446049250313e-16 * scale;
+    let t = tolerance(scale);
     let mut i: usize = 0;
     while i < values.len() {
         values[i] = onto_both(t, lower, upper, values[i]);

@@ -1,6 +1,6 @@
 // The lattice of a field over a box: its nodes, the field's values there, and the lattice edges that a level crosses.
-mod edges;
-mod levels;
+pub mod edges;
+pub mod levels;
 mod nodes;
 
 use blank::blank_numbers;
@@ -47,7 +47,7 @@ fn fill(
 }
 
 // All the questions, and the fronts of the lists.
-fn ask_and_fill(
+pub fn ask_and_fill(
     coefficients: &[f64],
     powers: &[u32],
     levels: &[f64; 2],

@@ -26,6 +26,9 @@ with-level-requires c κs = search needs
 with-level-requires-2 : tie.Need-with-level-requires-2 Inv-loop μ-loop
 with-level-requires-2 c κs = search needs
 
+tolerance-requires : tie.Need-tolerance-requires Inv-loop μ-loop
+tolerance-requires c κs = search needs
+
 loop-holds : tie.Need-loop-holds Inv-loop μ-loop
 loop-holds c = (omega arith, refl, refl)
 
@@ -54,8 +57,8 @@ loop-again : tie.Need-loop-again Inv-loop μ-loop
 loop-again c =
     let l = c .before .before .before .loop in
     let s = c .before .before .before .before in
-    let a = s .before .before .before .before .before .args in
-    let t = tolerance (s .with-level2 .result) in
+    let a = s .before .before .before .before .before .before .args in
+    let t = s .tolerance .result in
     let inside = c .before .before .loop-test .taken in
     (omega arith, simp length-set (l .inv .1), change-more (ontoBoth t (a .lower) (a .upper)) (a .values .now) (l .i) (l .values) nan (c .onto-both .result) (omega arith) (l .inv .2) (c .onto-both .ensures))
 
@@ -64,10 +67,11 @@ same-length c = c .before .loop .inv .1
 
 returns : tie.Need-returns Inv-loop μ-loop
 returns c =
-    let a = c .before .before .before .before .before .before .before .args in
+    let w = c .before .before in
+    let a = w .before .before .before .before .before .before .args in
     let l = c .before .loop in
-    let s = scaled (a .values .now) (a .lower) (a .upper) _ _ _ (c .before .before .before .before .largest .ensures) (c .before .before .before .with-level .ensures) (c .before .before .with-level2 .ensures) in
-    change-end _ (a .values .now) (l .i) (l .values) (omega arith) (l .inv .2) ∙ ap (λ (x : Float). map (ontoBoth (tolerance x) (a .lower) (a .upper)) (a .values .now)) s
+    let s = scaled (a .values .now) (a .lower) (a .upper) _ _ _ (w .before .before .before .largest .ensures) (w .before .before .with-level .ensures) (w .before .with-level2 .ensures) in
+    change-end _ (a .values .now) (l .i) (l .values) (omega arith) (l .inv .2) ∙ ap (λ (t : Float). map (ontoBoth t (a .lower) (a .upper)) (a .values .now)) (w .tolerance .ensures ∙ ap tolerance s)
 
 pub set-onto-levels-spec : {M : Type 1} → statement M
 set-onto-levels-spec =
@@ -78,6 +82,7 @@ set-onto-levels-spec =
     largest-requires
     with-level-requires
     with-level-requires-2
+    tolerance-requires
     loop-holds
     mul-onto-both
     slice-read-onto-both
