@@ -17,13 +17,17 @@ use Rattle.field.proofs.Checks.{failed, held}
 use Rattle.lattice.specs.Node.{perSide, cube}
 use Rattle.lattice.specs.Values.{ontoLevels}
 use Rattle.lattice.specs.Edges.{crossedEdges, edgeWords}
-use Rattle.lattice.specs.Sample.{SampledField, LatticeLists, lists, nodes, lowerLevel, upperLevel, latticeGrid, rawValues, latticeValues, latticeEdges, afterNodes, latticeOf, LatticeCall}
-use Rattle.lattice.specs.Stages.{Fillable, NodesFilled, EdgesNoted, nodesIn, edgesIn, FrontsFilled}
+use Rattle.lattice.specs.Sample.{SampledField, LatticeLists, lists, nodes, lowerLevel, upperLevel, latticeGrid, rawValues, latticeValues, latticeEdges, afterNodes, latticeOf, LatticeGiven, LatticeCall}
+use Rattle.lattice.specs.Stages.{Fillable, NodesFilled, EdgesNoted, nodesIn, edgesIn, FrontsFilled, HasRoom, BlankBehind}
 use Rattle.lattice.specs.declared.Lattice.{Lattice}
 use Rattle.lattice.specs.declared.Lattice.the-variants.{Sampled, Refused}
 use Rattle.lattice.proofs.Indices.{cube-small}
 use Rattle.lattice.proofs.Stores.{front, grid-length}
 use Rattle.lattice.proofs.Noting.{noted-length, noted-same, words-length, among-few}
+
+-- a list with what is made in front, and 0 behind
+pub behind : {A : Type 0} (z : A) (lent l : List A) {made : List A} (n : ℕ) → length l ≡ length lent → n ≤ length lent → take n l ≡ made → blank z l n ≡ thenBlank z lent made
+behind z lent l {made} n same h t = blank-is z lent l made n same t (sym (ap length t) ∙ length-take-le n l (omega arith))
 
 module _ (f : SampledField) where
   -- a refusal leaves lists of the same lengths
@@ -57,7 +61,7 @@ module _ (f : SampledField) where
   unfolding afterNodes
   all places p h = rw (p, le-leb (length (latticeEdges f) * 3) places h) refl
 
-  module _ {g₀ v₀ g₁ v₁ : List Float} (fits : Fillable (f .cells) g₀ v₀) (n : NodesFilled (f .coefficients) (f .powers) (f .bounds) (f .cells) g₀ g₁ v₀ v₁) (b : Bool) (tested : b ≡ every isFinite v₁) where
+  module _ {g₀ v₀ g₁ v₁ : List Float} (fits : Fillable (f .cells) g₀ v₀) (n : NodesFilled (f .coefficients) (f .powers) (f .bounds) (f .cells) g₀ g₁ v₁) (b : Bool) (tested : b ≡ every isFinite v₁) where
     grid-same : length g₁ ≡ length g₀
     grid-same = ap length (n .gridFront) ∙ length-sets g₀ 0 (latticeGrid f)
 
@@ -171,27 +175,22 @@ module _ (f : SampledField) where
   -- ---- `sample`: 0 behind the fronts
 
   -- an answer's counts have room
-  pub room : {lent after : LatticeLists} {lattice r : Lattice} {n m : ℕ} → FrontsFilled lattice f lent after r → r ≡ Sampled n m
-      → (n * 3 ≤ length (after .grid)) × (n ≤ length (after .values)) × (m * 3 ≤ length (after .edges))
-  room {lent} {after} {lattice} {r} {n} {m} t s =
-      let g : n * 3 ≤ length (lent .grid) = subst (λ (q : Lattice). nodesIn q * 3 ≤ length (lent .grid)) s (t .gridPlaces) in
-      let v : n ≤ length (lent .values) = subst (λ (q : Lattice). nodesIn q ≤ length (lent .values)) s (t .valuePlaces) in
-      let e : m * 3 ≤ length (lent .edges) = subst (λ (q : Lattice). edgesIn q * 3 ≤ length (lent .edges)) s (t .edgePlaces) in
-      (omega (arith, t .gridLength), omega (arith, t .valueLength), omega (arith, t .edgeLength))
+  pub room : {lent after : LatticeLists} {lattice r q : Lattice} → FrontsFilled lattice f lent after r → r ≡ q → HasRoom (nodesIn q) (edgesIn q) after
+  room {lent} {after} {lattice} {r} {q} t s =
+      let u = subst (FrontsFilled lattice f lent after) s t in
+      let g = u .gridPlaces in
+      let v = u .valuePlaces in
+      let e = u .edgePlaces in
+      record { grid = omega (arith, u .gridLength); values = omega (arith, u .valueLength); edges = omega (arith, u .edgeLength) }
 
-  pub called : {lent filled after : LatticeLists} {r q : Lattice} → FrontsFilled (latticeOf f lent) f lent filled r → r ≡ q
-      → after .grid ≡ blank plusZero (filled .grid) (nodesIn q * 3) → after .values ≡ blank plusZero (filled .values) (nodesIn q) → after .edges ≡ blank 0 (filled .edges) (edgesIn q * 3)
-      → LatticeCall f lent after q
-  called {lent} {filled} {after} {r} {q} t s g v e =
+  pub given : {lent filled after : LatticeLists} {lattice r : Lattice} → FrontsFilled lattice f lent filled r → BlankBehind (nodesIn r) (edgesIn r) filled after → LatticeGiven r f lent after
+  given {lent} {filled} {after} {lattice} {r} u b = record {
+    grid = b .grid ∙ behind plusZero (lent .grid) (filled .grid) (nodesIn r * 3) (u .gridLength) (u .gridPlaces) (u .gridFront);
+    values = b .values ∙ behind plusZero (lent .values) (filled .values) (nodesIn r) (u .valueLength) (u .valuePlaces) (u .valueFront);
+    edges = b .edges ∙ behind 0 (lent .edges) (filled .edges) (edgesIn r * 3) (u .edgeLength) (u .edgePlaces) (u .edgeFront);
+  }
+
+  pub called : {lent filled after : LatticeLists} {r q : Lattice} → FrontsFilled (latticeOf f lent) f lent filled r → r ≡ q → BlankBehind (nodesIn q) (edgesIn q) filled after → LatticeCall f lent after q
+  called {lent} {filled} {after} {r} {q} t s b =
       let u = subst (FrontsFilled (latticeOf f lent) f lent filled) s t in
-      record {
-        answer = u .answer;
-        given = record {
-          grid = g ∙ behind plusZero (lent .grid) (filled .grid) (nodesIn q * 3) (u .gridLength) (u .gridPlaces) (u .gridFront);
-          values = v ∙ behind plusZero (lent .values) (filled .values) (nodesIn q) (u .valueLength) (u .valuePlaces) (u .valueFront);
-          edges = e ∙ behind 0 (lent .edges) (filled .edges) (edgesIn q * 3) (u .edgeLength) (u .edgePlaces) (u .edgeFront);
-        };
-      }
-    where
-      behind : {A : Type 0} (z : A) (lent l : List A) {made : List A} (n : ℕ) → length l ≡ length lent → n ≤ length lent → take n l ≡ made → blank z l n ≡ thenBlank z lent made
-      behind z lent l {made} n same h t = blank-is z lent l made n same t (sym (ap length t) ∙ length-take-le n l (omega arith))
+      record { answer = u .answer; given = given u b }

@@ -136,7 +136,7 @@ module _ (qs : List Float) (ns : List ℕ) (bounds : List Float) (cells : ℕ) (
           valueFront = sampled-step qs ns bounds cells a v₀ v r w (f .valueFront) n ew;
         }
 
-    pub filling-ends : length v ≤ a → NodesFilled qs ns bounds cells g₀ g v₀ v
+    pub filling-ends : length v ≤ a → NodesFilled qs ns bounds cells g₀ g v
     filling-ends h =
         let s = f .valueLength in
         let l = f .few in

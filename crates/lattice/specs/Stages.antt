@@ -7,6 +7,8 @@ use lib.Dec.{ltb}
 use lib.ListN.{length, take}
 use lib.Seq.{sets}
 use lib.Ieee.{Float}
+use Rattle.blank.specs.Blank.{blank}
+use Rattle.field.specs.Number.{plusZero}
 use Rattle.lattice.specs.Node.{cube, alongX, alongY, alongZ, grid}
 use Rattle.lattice.specs.Values.{sampled}
 use Rattle.lattice.specs.Edges.{Edge, staysInside, stepEnd, edgeWords}
@@ -48,7 +50,7 @@ pub record Fillable (cells : ℕ) (grid₀ values₀ : List Float) : Type 0 wher
   pub gridPlaces : nodes cells * 3 ≤ length grid₀
   pub valuePlaces : length values₀ ≡ nodes cells
 
-pub record NodesFilled (qs : List Float) (ns : List ℕ) (bounds : List Float) (cells : ℕ) (grid₀ grid₁ values₀ values₁ : List Float) : Type 0 where
+pub record NodesFilled (qs : List Float) (ns : List ℕ) (bounds : List Float) (cells : ℕ) (grid₀ grid₁ values₁ : List Float) : Type 0 where
   pub gridFront : grid₁ ≡ sets grid₀ 0 (grid bounds cells (nodes cells))
   pub values : values₁ ≡ sampled qs ns bounds cells (nodes cells)
 
@@ -86,3 +88,15 @@ pub record FrontsFilled (lattice : Lattice) (f : SampledField) (lent after : Lat
   pub gridFront : take (nodesIn r * 3) (after .grid) ≡ whenSampled r (latticeGrid f)
   pub valueFront : take (nodesIn r) (after .values) ≡ whenSampled r (latticeValues f)
   pub edgeFront : take (edgesIn r * 3) (after .edges) ≡ edgeWords (whenSampled r (latticeEdges f))
+
+-- the lists have places for so many nodes and edges
+pub record HasRoom (nodes found : ℕ) (l : LatticeLists) : Type 0 where
+  pub grid : nodes * 3 ≤ length (l .grid)
+  pub values : nodes ≤ length (l .values)
+  pub edges : found * 3 ≤ length (l .edges)
+
+-- the lists are 0 behind these
+pub record BlankBehind (nodes found : ℕ) (l after : LatticeLists) : Type 0 where
+  pub grid : after .grid ≡ blank plusZero (l .grid) (nodes * 3)
+  pub values : after .values ≡ blank plusZero (l .values) nodes
+  pub edges : after .edges ≡ blank 0 (l .edges) (found * 3)

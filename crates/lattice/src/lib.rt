@@ -10,7 +10,7 @@ use levels::set_onto_levels;
 use nodes::fill_nodes;
 ghost use lib.ListN.{length};
 ghost use Rattle.lattice.specs.Sample.{told, lists, afterNodes, latticeOf, LatticeCall};
-ghost use Rattle.lattice.specs.Stages.{Fillable, FrontsFilled};
+ghost use Rattle.lattice.specs.Stages.{Fillable, FrontsFilled, HasRoom, BlankBehind};
 
 // How many nodes and how many crossed edges the lists have, or the number of the refusal.
 pub enum Lattice {
@@ -88,6 +88,22 @@ pub fn ask_and_fill(
     )
 }
 
+// Sets the lists to 0 behind so many nodes and edges.
+pub fn blank_behind(
+    grid: &mut [f64],
+    values: &mut [f64],
+    edges: &mut [u32],
+    nodes: usize,
+    found: usize,
+)
+    requires { ⌜ HasRoom nodes found (lists (now grid) (now values) (now edges)) ⌝ }
+    ensures { λ _. ⌜ BlankBehind nodes found (lists (now (grid .entry)) (now (values .entry)) (now (edges .entry))) (lists (now (grid .exit)) (now (values .exit)) (now (edges .exit))) ⌝ }
+{
+    blank_numbers(grid, nodes * 3);
+    blank_numbers(values, nodes);
+    blank_words(edges, found * 3);
+}
+
 // Samples a field on the lattice of a box. The lists may be longer than the answers: behind these they are 0
 // afterwards, and after a refusal they are all 0.
 pub fn sample(
@@ -113,15 +129,11 @@ pub fn sample(
         edges,
     ) {
         Lattice::Sampled(nodes, found) => {
-            blank_numbers(grid, nodes * 3);
-            blank_numbers(values, nodes);
-            blank_words(edges, found * 3);
+            blank_behind(grid, values, edges, nodes, found);
             Lattice::Sampled(nodes, found)
         }
         Lattice::Refused(why) => {
-            blank_numbers(grid, 0);
-            blank_numbers(values, 0);
-            blank_words(edges, 0);
+            blank_behind(grid, values, edges, 0, 0);
             Lattice::Refused(why)
         }
     }

@@ -67,7 +67,7 @@ pub fn fill_nodes(
     values: &mut [f64],
 )
     requires { ⌜ Fillable cells (now grid) (now values) ⌝ }
-    ensures { λ _. ⌜ NodesFilled (now (coefficients .entry)) (now (powers .entry)) (now (bounds .entry)) cells (now (grid .entry)) (now (grid .exit)) (now (values .entry)) (now (values .exit)) ⌝ }
+    ensures { λ _. ⌜ NodesFilled (now (coefficients .entry)) (now (powers .entry)) (now (bounds .entry)) cells (now (grid .entry)) (now (grid .exit)) (now (values .exit)) ⌝ }
 {
     let n = cells as usize + 1;
     let mut index = Index { x: 0, y: 0, z: 0 };
