@@ -1,7 +1,7 @@
--- `edges-listed`: the list of crossed edges holds every crossed edge exactly once and no other, and it rises by node, step and label; `lattice-listed`: so does that of a sampled field. Assumes nothing.
+-- `edges-listed`: the list of crossed edges holds every crossed edge exactly once and no other, and it rises by node, step and label; `lattice-listed`: so does that of a sampled field; `listed-crossed`: what is listed is crossed. Assumes nothing.
 use mathlib.Core.Path.{_≡_, refl, sym, ap, _∙_, subst}
 use mathlib.Core.Logic.{_⊎_, inl, inr}
-use mathlib.Core.Bool.{Bool, true, false, not, cond, false≢true}
+use mathlib.Core.Bool.{Bool, true, false, not, cond, true≢false, false≢true}
 use mathlib.Core.List.{List, [], _∷_, _++_}
 use Prim.Native.Nat.{ℕ, zero, suc, _+_, _*_, _<_, _≤_}
 use native.Mathlib.Nat.{eq-or-lt-of-le, zero-add}
@@ -12,7 +12,7 @@ use lib.Seq.{getD-at}
 use lib.Ieee.{Float}
 use Rattle.lattice.specs.Node.{perSide, cube}
 use Rattle.lattice.specs.Edges.{Edge, crossedEdge?, edgeAt, crossedAmong, crossedEdges}
-use Rattle.lattice.specs.Laws.{sameEdge?, timesListed, EdgeBefore, noEdge, ListsCrossed}
+use Rattle.lattice.specs.Laws.{CrossedEdge, sameEdge?, timesListed, EdgeBefore, noEdge, ListsCrossed}
 use Rattle.lattice.specs.Sample.{SampledField, lowerLevel, upperLevel, latticeValues, latticeEdges}
 use Rattle.lattice.proofs.Noting.{among-few}
 use Rattle.lattice.proofs.Crossing.{crossed-says, says-crossed, same-edge, same-itself, turn, turn-of, at-turn, turn-before}
@@ -173,3 +173,21 @@ module _ (n : ℕ) (lower upper : Float) (values : List Float) where
 pub lattice-listed : (f : SampledField) → ListsCrossed (perSide (f .cells)) (lowerLevel f) (upperLevel f) (latticeValues f) (latticeEdges f)
 unfolding latticeEdges
 lattice-listed f = edges-listed (perSide (f .cells)) (lowerLevel f) (upperLevel f) (latticeValues f)
+
+-- ---- what is listed is crossed
+
+often-there : (es : List Edge) (i : ℕ) → i < length es → 1 ≤ timesListed (getD es i noEdge) es
+unfolding timesListed
+often-there [] i h = absurd (omega arith)
+often-there (e ∷ es) zero h = subst (λ (b : Bool). 1 ≤ cond b 1 0 + timesListed e es) (sym (same-itself e)) (omega arith)
+often-there (e ∷ es) (suc i) h = let q : 1 ≤ timesListed (getD es i noEdge) es = often-there es i (omega arith) in omega arith
+
+pub listed-crossed : {n : ℕ} {lower upper : Float} {values : List Float} {es : List Edge} → ListsCrossed n lower upper values es → (i : ℕ) → i < length es → CrossedEdge n lower upper values (getD es i noEdge)
+listed-crossed {n} {lower} {upper} {values} {es} l i h = go (crossedEdge? n lower upper values (getD es i noEdge)) refl
+  where
+    go : (b : Bool) → crossedEdge? n lower upper values (getD es i noEdge) ≡ b → CrossedEdge n lower upper values (getD es i noEdge)
+    go true q = crossed-says n lower upper values (getD es i noEdge) q
+    go false q =
+        let none : timesListed (getD es i noEdge) es ≡ 0 = l .no-other (getD es i noEdge) (λ c. true≢false (sym (says-crossed n lower upper values (getD es i noEdge) c) ∙ q)) in
+        let some = often-there es i h in
+        absurd (omega arith)
