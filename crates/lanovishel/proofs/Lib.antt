@@ -1,4 +1,4 @@
--- Laws of calls that answer 0. `Volume`: page twelve's next printing; `Price`: the powder tariff; `Nearest`: nearest corners; `Outlines`: layer outlines. `Sheets` has what the calls on sheets hand on, `SheetLaws` their laws; `Sample` and `SampleLaws` likewise for sampling.
+-- Laws of calls that answer 0. `Volume`: page twelve's next printing; `Price`: the powder tariff; `Nearest`: nearest corners; `Outlines`: layer outlines. `Sheets` has what the calls on sheets hand on, `SheetLaws` their laws; `Sample` and `SampleLaws` likewise for sampling, `Cut` and `CutLaws` for cutting.
 pub mod Volume
 pub mod Price
 pub mod Nearest
@@ -7,3 +7,4 @@ pub mod Sheets
 pub mod SheetLaws
 pub mod Sample
 pub mod SampleLaws
+pub mod Cut

@@ -1,6 +1,7 @@
 // The functions that programs in Rust and C link. Slices pass as a pointer and a length, arrays as a
 // pointer. None asks anything of its caller: a bad call is answered with its number.
 use checking::Verdict;
+use cuts::Cuts;
 use editing::Outcome;
 use lattice::Lattice;
 use layers::Layer;
@@ -23,6 +24,8 @@ ghost use Rattle.lanovishel.specs.Edit.{EditCall};
 ghost use Rattle.lanovishel.specs.Improve.{ImproveCall};
 ghost use Rattle.lattice.specs.Sample.{told, lists};
 ghost use Rattle.lanovishel.specs.Sample.{SampleCall};
+ghost use Rattle.cuts.specs.Call.{cutLists};
+ghost use Rattle.lanovishel.specs.Cut.{CutCall};
 
 // The square root of IEEE 754.
 #[no_mangle]
@@ -320,6 +323,54 @@ pub extern "C" fn lanovishel_sample(
         }
         Lattice::Refused(why) => {
             *counts = [0, 0, 0];
+            why
+        }
+    }
+}
+
+// Samples a field sheet as `lanovishel_sample` does, and cuts the listed edges: 0 with the nodes in the grid, the nodes
+// in the values, the edges in their list and their cuts, and the field values that were taken for these; or the number
+// of the refusal.
+#[no_mangle]
+pub extern "C" fn lanovishel_cut(
+    coefficients: &[f64],
+    powers: &[u32],
+    levels: &[f64; 2],
+    bounds: &[f64; 6],
+    cells: u32,
+    grid: &mut [f64],
+    values: &mut [f64],
+    edges: &mut [u32],
+    counts: &mut [u32; 4],
+    cuts: &mut [f64],
+    fields: &mut [u64; 1],
+) -> u32
+    ensures { λ r. ⌜ CutCall (told (now (coefficients .entry)) (now (powers .entry)) (now (levels .entry)) (now (bounds .entry)) cells) (cutLists (lists (now (grid .entry)) (now (values .entry)) (now (edges .entry))) (now (cuts .entry))) (cutLists (lists (now (grid .exit)) (now (values .exit)) (now (edges .exit))) (now (cuts .exit))) (now (counts .exit)) (now (fields .exit)) r ⌝ }
+{
+    match cuts::cut(
+        coefficients,
+        powers,
+        levels,
+        bounds,
+        cells,
+        grid,
+        values,
+        edges,
+        cuts,
+    ) {
+        Cuts::Complete(nodes, found, taken) => {
+            *counts = [
+                low_word(nodes),
+                low_word(nodes),
+                low_word(found),
+                low_word(found),
+            ];
+            *fields = [taken];
+            0
+        }
+        Cuts::Refused(why) => {
+            *counts = [0, 0, 0, 0];
+            *fields = [0];
             why
         }
     }
