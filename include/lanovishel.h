@@ -169,4 +169,30 @@ uint32_t lanovishel_sample(const double *coefficients, size_t coefficient_count,
                            uint32_t *edges, size_t edge_words,
                            uint32_t counts[3]);
 
+/* Samples a field as lanovishel_sample does and finds where its levels cut the listed edges. The residual at a point is
+ * the field there less the level of the edge's label, in double; at a node it is the node's value less the level. An edge
+ * whose first node has the residual 0 is cut there; else, one whose second node has it, there. On every other edge the
+ * two nodes have residuals of opposite sign. The parameter t is 0 at the first node a and 1 at the second node b, and
+ * its point is a * (1 - t) + b * t. From the ends lo = 0 and hi = 1, each round takes the field at one t:
+ * lo - (flo * (hi - lo)) / (fhi - flo), with the residuals flo and fhi at the ends; or (lo + hi) * 0.5 where that is not
+ * strictly between the ends, and in the rounds 3, 7, 11, 12, 13 and so on, counted from 0. Where the residual is at most
+ * 2^-46 of the largest magnitude among both nodes' residuals, the level and 2^-1022, the edge is cut at t. Else t becomes
+ * the end whose node has a residual of the same sign. After 52 rounds the edge is cut at (lo + hi) * 0.5.
+ *
+ * Where the call is accepted, counts has the number of nodes in grid, of nodes in values, of edges and of cut places;
+ * cuts has a place for each edge, in the order of the list, the three values of the point where the edge is cut; fields
+ * has the number of field values taken on the edges, those at the nodes not counted; and all four lists are 0 behind.
+ * Else counts, fields and the four lists are 0: after all that lanovishel_sample refuses comes 35 for fewer cut places
+ * than edges, and then 37 for an edge, in the order of the list, on which a residual is not finite, that at a node or
+ * that in a round. */
+uint32_t lanovishel_cut(const double *coefficients, size_t coefficient_count,
+                        const uint32_t *powers, size_t power_count,
+                        const double levels[2], const double bounds[6], uint32_t cells,
+                        double *grid, size_t grid_values,
+                        double *values, size_t value_count,
+                        uint32_t *edges, size_t edge_words,
+                        uint32_t counts[4],
+                        double *cuts, size_t cut_values,
+                        uint64_t fields[1]);
+
 #endif

@@ -3,6 +3,7 @@
 //! Every function answers for every input: nothing here panics, and no call reads or writes
 //! outside the slices that it is lent.
 mod check;
+mod cut;
 mod edit;
 mod field;
 mod improve;
@@ -17,6 +18,7 @@ mod sheets;
 pub mod raw;
 
 pub use check::{Measured, check, work_words};
+pub use cut::{CutCounts, Cuts, cut, cut_into};
 pub use edit::{Edited, edit};
 pub use field::Field;
 pub use improve::{Improved, improve};

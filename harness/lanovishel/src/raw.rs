@@ -168,4 +168,25 @@ unsafe extern "C" {
         edge_words: usize,
         counts: *mut [u32; 3],
     ) -> u32;
+
+    /// A field on a lattice and where the levels cut its edges; see [`crate::cut`].
+    pub fn lanovishel_cut(
+        coefficients: *const f64,
+        coefficient_count: usize,
+        powers: *const u32,
+        power_count: usize,
+        levels: *const [f64; 2],
+        bounds: *const [f64; 6],
+        cells: u32,
+        grid: *mut f64,
+        grid_values: usize,
+        values: *mut f64,
+        value_count: usize,
+        edges: *mut u32,
+        edge_words: usize,
+        counts: *mut [u32; 4],
+        cuts: *mut f64,
+        cut_values: usize,
+        fields: *mut [u64; 1],
+    ) -> u32;
 }

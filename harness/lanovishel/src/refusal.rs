@@ -90,6 +90,7 @@ refusals! {
     34 Cells "there are fewer than 4 or more than 128 cells a side"
     35 ListTooShort "a list that is lent for answers is too short for them"
     36 FieldNotFinite "a sampled value of the field is not finite"
+    37 ResidualNotFinite "on a crossed edge, the field less the level is not finite"
     38 BetweenUnits "a coordinate is no multiple of 64, so that it lies between units of 1/1024"
     40 OffUnits "the height is outside -32,768..32,767, or a coordinate is not in whole 1/1024 within ±32"
     41 TooFewPlaces "fewer list places than crossed sides"

@@ -75,6 +75,20 @@ pub struct Lattice {
 /// # Errors
 /// [`Refusal`], by its number 13, 34 or 36.
 pub fn sample(field: &Field, cells: u32) -> Result<Lattice, Refusal> {
+    let (lattice, ()) = listed(cells, |grid, values, edges| {
+        let found = sample_into(field, cells, grid, values, edges)?;
+        Ok((found.edges, ()))
+    })?;
+    Ok(lattice)
+}
+
+/// A lattice in lists that are made for it. `fill` fills its grid, its values and its edges, and says
+/// how many edges there are, and what else it has; it is asked again with the most places where the
+/// likely ones are too few.
+pub(crate) fn listed<T>(
+    cells: u32,
+    fill: impl Fn(&mut [f64], &mut [f64], &mut [u32]) -> Result<(u32, T), Refusal>,
+) -> Result<(Lattice, T), Refusal> {
     // Another number of cells is refused whatever the lists are.
     let taken = if CELLS.contains(&cells) { cells } else { 0 };
     let nodes = node_count(taken);
@@ -82,20 +96,21 @@ pub fn sample(field: &Field, cells: u32) -> Result<Lattice, Refusal> {
     let mut list = |places| {
         let mut edges = vec![[0; 3]; places];
         let words = edges.as_flattened_mut();
-        let found = sample_into(field, cells, grid.as_flattened_mut(), &mut values, words)?;
-        edges.truncate(found.edges as usize);
+        let (count, other) = fill(grid.as_flattened_mut(), &mut values, words)?;
+        edges.truncate(count as usize);
         edges.shrink_to_fit();
-        Ok(edges)
+        Ok((edges, other))
     };
-    let edges = match list(likely_edges(taken)) {
+    let (edges, other) = match list(likely_edges(taken)) {
         Err(Refusal::ListTooShort) => list(most_edges(taken))?,
         listed => listed?,
     };
-    Ok(Lattice {
+    let lattice = Lattice {
         grid,
         values,
         edges,
-    })
+    };
+    Ok((lattice, other))
 }
 
 /// How many cells a side are taken.
