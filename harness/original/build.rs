@@ -1,6 +1,6 @@
 //! Takes the original's source from the folder that `LANOVISHEL_ORIGINAL` names, or from
-//! ../shared/docs/src beside the project, and makes document 01's edits and the one that hands out
-//! what `extract` samples. Each edit must match exactly once. Where no source is there, the cfg
+//! ../shared/docs/src beside the project, and makes document 01's edits and those that hand out
+//! what `extract` samples and solves. Each edit must match exactly once. Where no source is there, the cfg
 //! `original` is not set.
 use std::{
     env, fs,
@@ -42,6 +42,51 @@ const KEYS: [&str; 2] = [
 ",
 ];
 
+/// `extract` ends where it has its roots, and hands out what it has then.
+const SOLVES: [&str; 2] = [
+    SAMPLES[0],
+    "pub fn extract<F: ScalarField>(band: &Band<'_, F>, cells: usize) -> Result<crate::Solved<Vec<Root>>> {",
+];
+
+/// What follows the roots, and the end that stands for it and for all that is behind.
+const ROOTS: [&str; 2] = [
+    "    // Nodes become vertices when a cap keeps them",
+    "    Ok(crate::Solved {
+        samples: crate::Samples {
+            grid: lattice.grid,
+            values: lattice.values,
+            keys: lattice.keys,
+        },
+        roots,
+    })
+}
+",
+];
+
+/// A root can be looked at.
+const ROOT: [&str; 2] = ["\nenum Root {", "\npub enum Root {"];
+
+/// Every edge has its own root or error, and how many values of the field that took.
+const EACH: [[&str; 2]; 3] = [
+    [
+        "-> Result<crate::Solved<Vec<Root>>> {",
+        "-> Result<crate::Solved<Vec<(Result<Root>, u64)>>> {",
+    ],
+    [
+        "        .map(|&(a, d, label)| lattice.solve(a, a + offsets[d as usize], label))",
+        "        .map(|&(a, d, label)| {
+            crate::field::counted(|| lattice.solve(a, a + offsets[d as usize], label))
+        })",
+    ],
+    [
+        "        .collect::<Result<Vec<_>>>()?;
+    band.field.check().map_err(MeshingError::GenerationFailed)?;
+    Ok(crate::Solved {",
+        "        .collect::<Vec<_>>();
+    Ok(crate::Solved {",
+    ],
+];
+
 fn main() {
     println!("cargo::rustc-check-cfg=cfg(original)");
     println!("cargo::rerun-if-env-changed=LANOVISHEL_ORIGINAL");
@@ -60,10 +105,16 @@ fn main() {
     let oracle = edited(&triangles, NO_SMOOTHING);
     let skipping = edited(&oracle, SKIP);
     let sampling = ended(&edited(&triangles, SAMPLES), KEYS);
-    let texts = [error, quads, oracle, skipping, sampling];
+    let solving = ended(&edited(&edited(&triangles, SOLVES), ROOT), ROOTS);
+    let cutting = EACH
+        .into_iter()
+        .fold(solving.clone(), |text, edit| edited(&text, edit));
+    let texts = [error, quads, oracle, skipping, sampling, solving, cutting];
     let folder = PathBuf::from(env::var_os("OUT_DIR").unwrap());
     let mut modules = String::new();
-    let names = ["error", "quads", "oracle", "skipping", "sampling"];
+    let names = [
+        "error", "quads", "oracle", "skipping", "sampling", "solving", "cutting",
+    ];
     for (name, text) in names.iter().zip(texts) {
         let path = folder.join(format!("{name}.rs"));
         fs::write(&path, text).unwrap();

@@ -1,5 +1,5 @@
 //! What stands for the original's functions where its source is not there.
-use crate::{Band, Point, Samples};
+use crate::{Band, Cut, Point, Samples, Solved};
 
 /// A mesh as the original has it.
 pub struct Mesh {
@@ -28,5 +28,15 @@ pub fn improve_skipping(_: &mut Mesh, _: &Band, _: usize) -> Option<Result<usize
 
 /// No answer.
 pub fn sample(_: &Band, _: usize) -> Option<Result<Samples, String>> {
+    None
+}
+
+/// No answer.
+pub fn roots(_: &Band, _: usize) -> Option<Result<impl Sized, String>> {
+    None::<Result<(), String>>
+}
+
+/// No answer.
+pub fn cut(_: &Band, _: usize) -> Option<Result<Solved<Vec<Cut>>, String>> {
     None
 }

@@ -1,5 +1,6 @@
 //! The original's trait of fields, and document 01's field sheet, which stands for it.
 use crate::Point;
+use std::cell::Cell;
 
 /// What the original asks of a field.
 pub trait ScalarField: Sync {
@@ -69,5 +70,30 @@ impl ScalarField for FieldSheet {
 
     fn gradient(&self, p: Point) -> Option<Point> {
         Some(std::array::from_fn(|axis| self.slope(axis, p)))
+    }
+}
+
+thread_local! {
+    static TAKEN: Cell<u64> = const { Cell::new(0) };
+}
+
+/// A field whose values are counted, in each thread.
+pub struct Counted<'a>(pub &'a FieldSheet);
+
+/// What `work` makes, and how many values of counted fields it takes in its thread.
+pub fn counted<T>(work: impl FnOnce() -> T) -> (T, u64) {
+    let before = TAKEN.get();
+    let made = work();
+    (made, TAKEN.get() - before)
+}
+
+impl ScalarField for Counted<'_> {
+    fn value(&self, p: Point) -> f64 {
+        TAKEN.set(TAKEN.get() + 1);
+        self.0.value(p)
+    }
+
+    fn gradient(&self, p: Point) -> Option<Point> {
+        self.0.gradient(p)
     }
 }

@@ -1,5 +1,5 @@
 //! The Rust original, from its own source: `validate`, `improve` as document 01 edits it, and
-//! `extract` up to its keys.
+//! `extract` up to its keys and up to its roots.
 //!
 //! Nothing of that source is in this repository. Where it was not there at build time, every
 //! function answers `None`.
@@ -15,12 +15,12 @@ mod absent;
 mod present;
 
 #[cfg(not(original))]
-pub use absent::{Mesh, improve, improve_skipping, sample, validate};
+pub use absent::{Mesh, cut, improve, improve_skipping, roots, sample, validate};
 pub use field::FieldSheet;
 pub use pieces::{has_piece_of_four, skipped};
 pub use point::Point;
 #[cfg(original)]
-pub use present::{Mesh, improve, improve_skipping, sample, validate};
+pub use present::{Mesh, cut, improve, improve_skipping, roots, sample, validate};
 
 // The original's modules, and what they name as their crate's own.
 #[cfg(original)]
@@ -55,3 +55,15 @@ pub struct Samples {
     /// The crossed edges: node, step, label.
     pub keys: Vec<(usize, u8, u8)>,
 }
+
+/// What `extract` has when it has its roots.
+pub struct Solved<R> {
+    /// What it had with its keys.
+    pub samples: Samples,
+    /// Its roots, of the crossed edges in turn.
+    pub roots: R,
+}
+
+/// What an edge is answered: the point of its root, or the message, and how many values of the field
+/// that took.
+pub type Cut = (Result<Point, String>, u64);
