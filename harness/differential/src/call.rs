@@ -37,6 +37,12 @@ pub struct Call {
     pub edges: Vec<u32>,
     /// How many nodes are in the grid, how many values, and how many edges.
     pub filled: [u32; 3],
+    /// Where a level cuts each edge, three values a place.
+    pub cuts: Vec<f64>,
+    /// What `filled` has, and how many of these places are filled.
+    pub cut_filled: [u32; 4],
+    /// How many values of the field are taken on the edges.
+    pub fields: [u64; 1],
     /// The price sheet's upper volumes, in unit cubes.
     pub uppers: Vec<u64>,
     /// The price sheet's prices, one a step.
@@ -86,6 +92,8 @@ impl Call {
             counts: [14, 15],
             length: [16],
             filled: [17, 18, 19],
+            cut_filled: [20, 21, 22, 23],
+            fields: [24],
             answer: [7, 8, 9],
             place: [10, 11],
             ..Self::default()
@@ -126,6 +134,9 @@ impl Call {
         same("grid", &self.grid, &wanted.grid)?;
         same("values", &self.values, &wanted.values)?;
         same("edges", &self.edges, &wanted.edges)?;
+        same("cut_filled", &self.cut_filled, &wanted.cut_filled)?;
+        same("fields", &self.fields, &wanted.fields)?;
+        same("cuts", &self.cuts, &wanted.cuts)?;
         same("uppers", &self.uppers, &wanted.uppers)?;
         same("prices", &self.prices, &wanted.prices)?;
         same("probes", &self.probes, &wanted.probes)?;
@@ -146,6 +157,12 @@ impl Call {
 /// Words to lend a list with, none of them 0.
 pub fn filling(words: usize) -> Vec<u32> {
     (0..words as u32).map(|i| i ^ 0x5a5a_5a5a).collect()
+}
+
+/// Numbers to lend a list with, none of them 0.
+pub fn float_filling(places: usize) -> Vec<f64> {
+    let float = |word: u32| f64::from_bits(u64::from(word) << 32 | u64::from(word));
+    filling(places).into_iter().map(float).collect()
 }
 
 /// What a word to lend may hold, by its place.

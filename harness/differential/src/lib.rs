@@ -6,6 +6,7 @@
 pub mod call;
 pub mod checking;
 pub mod closed;
+pub mod cutting;
 pub mod damage;
 pub mod editing;
 pub mod field;

@@ -1,7 +1,7 @@
 //! Sampling a field: random calls, a model from request F-2, the original's `extract` up to its
 //! keys, and ours.
 use crate::{
-    call::{Call, filling},
+    call::{Call, filling, float_filling},
     editing::set_then_0,
     field::{self, BALL, Term, some_terms},
     questions::{No, ask},
@@ -48,19 +48,24 @@ pub fn originals(before: &Call, wanted: &Call) -> Option<Call> {
     }
     let theirs = original::sample(&field::told(before), before.cells as usize)?;
     let outcome = match theirs {
-        Ok(samples) => Ok(Samples {
-            grid: samples.grid,
-            values: samples.values,
-            edges: samples
-                .keys
-                .into_iter()
-                .map(|(node, step, label)| [node as u32, step.into(), label.into()])
-                .collect(),
-        }),
+        Ok(samples) => Ok(named(samples)),
         Err(message) if message == "Non-finite sampled field" => Err(36),
         Err(message) => panic!("{message}"),
     };
     Some(ended(before, outcome))
+}
+
+/// What the original samples, as we name it.
+pub fn named(samples: original::Samples) -> Samples {
+    Samples {
+        grid: samples.grid,
+        values: samples.values,
+        edges: samples
+            .keys
+            .into_iter()
+            .map(|(node, step, label)| [node as u32, step.into(), label.into()])
+            .collect(),
+    }
 }
 
 /// The call after such an outcome: the samples, then 0; all 0 after a refusal.
@@ -81,7 +86,7 @@ fn ended(before: &Call, outcome: Result<Samples, u32>) -> Call {
 }
 
 /// The samples, or the refusal.
-fn found(call: &Call) -> Result<Samples, No> {
+pub fn found(call: &Call) -> Result<Samples, No> {
     field::asked(call)?;
     ask((4..=128).contains(&call.cells), 34)?;
     let nodes = nodes(call.cells);
@@ -232,9 +237,8 @@ pub fn call_of(terms: &[Term], levels: [f64; 2], bounds: [f64; 6], cells: u32) -
 
 /// Lends lists of such lengths with something in them: the grid, the values, the edges.
 pub fn lend(call: &mut Call, [grid, values, edges]: [usize; 3]) {
-    let float = |word: u32| f64::from_bits(u64::from(word) << 32 | u64::from(word));
-    call.grid = filling(grid).into_iter().map(float).collect();
-    call.values = filling(values).into_iter().map(float).collect();
+    call.grid = float_filling(grid);
+    call.values = float_filling(values);
     call.edges = filling(edges);
 }
 
@@ -250,30 +254,48 @@ pub fn needed(call: &Call) -> [usize; 3] {
 /// near it; one in eight has a list that may be too short, one in eight breaks a rule of the field
 /// and one in sixteen that of the cells.
 pub fn random_call(random: &mut Random) -> Call {
-    let cells = random.pick(&[4, 4, 4, 5, 5, 6, 7, 8, 9, 12, 16]);
+    let mut call = random_field(random, &[4, 4, 4, 5, 5, 6, 7, 8, 9, 12, 16]);
+    lend_some(&mut call, random);
+    break_rules(&mut call, random);
+    call
+}
+
+/// A field that is taken, and some of the cells.
+pub fn random_field(random: &mut Random, cells: &[u32]) -> Call {
+    let cells = random.pick(cells);
     let mut call = call_of(&any_terms(random), [0.0, 1.0], some_box(random), cells);
     call.levels = some_levels(&call, random);
     if field::asked(&call).is_err() {
         // Levels that are the same.
         call.levels[1] = call.levels[0].next_up();
     }
+    call
+}
+
+/// Lends lists that are long enough; one call in eight has a list that may be too short. Says how many
+/// words the edges need.
+pub fn lend_some(call: &mut Call, random: &mut Random) -> usize {
     let spare = [0; 3].map(|_| random.pick(&[0, 0, 1, 2, 3, 50]));
-    let lengths = needed(&call);
-    let mut lengths = [0, 1, 2].map(|list| lengths[list] + spare[list]);
+    let needed = needed(call);
+    let mut lengths = [0, 1, 2].map(|list| needed[list] + spare[list]);
     if random.one_in(8) {
         let list = random.below(3);
         let missing = random.pick(&[1, 1, 2, 3, 4, 50]) + spare[list];
         lengths[list] = lengths[list].saturating_sub(missing);
     }
-    lend(&mut call, lengths);
+    lend(call, lengths);
+    needed[2]
+}
+
+/// In one call in eight breaks a rule of the field, and in one in sixteen that of the cells.
+pub fn break_rules(call: &mut Call, random: &mut Random) {
     if random.one_in(8) {
         let rule = random.below(field::RULES);
-        field::break_a_rule(&mut call, rule, random);
+        field::break_a_rule(call, rule, random);
     }
     if random.one_in(16) {
         call.cells = random.pick(&[0, 1, 2, 3, 129, 130, 260, u32::MAX]);
     }
-    call
 }
 
 /// Few terms or many, with coefficients of any size.

@@ -125,7 +125,7 @@ fn convert_sheet(text: &[u8], edition: Edition, places: usize) -> Refusal {
     lanovishel::convert_sheet(text, edition, &mut written).unwrap_err()
 }
 
-/// Why sampling refuses q·x or cells, with so many places in each list.
+/// Why sampling refuses q·x or cells, and cutting too, with so many places in each list.
 fn sample(coefficient: f64, powers: &[u32], cells: u32, places: usize) -> Refusal {
     let field = Field {
         coefficients: &[coefficient],
@@ -135,7 +135,30 @@ fn sample(coefficient: f64, powers: &[u32], cells: u32, places: usize) -> Refusa
     };
     let (mut grid, mut values) = (vec![1.0; places], vec![1.0; places]);
     let mut edges = vec![1; places];
-    lanovishel::sample_into(&field, cells, &mut grid, &mut values, &mut edges).unwrap_err()
+    let refusal =
+        lanovishel::sample_into(&field, cells, &mut grid, &mut values, &mut edges).unwrap_err();
+    assert_eq!(cut(&field, cells, places, places), refusal);
+    refusal
+}
+
+/// Why cutting refuses a field or cells, with so many places in each list, and so many for cuts.
+fn cut(field: &Field, cells: u32, places: usize, cut_places: usize) -> Refusal {
+    let (mut grid, mut values) = (vec![1.0; places], vec![1.0; places]);
+    let (mut edges, mut cuts) = (vec![1; places], vec![1.0; cut_places]);
+    let (grid, values) = (&mut grid, &mut values);
+    lanovishel::cut_into(field, cells, grid, values, &mut edges, &mut cuts).unwrap_err()
+}
+
+/// Why cutting refuses, with so many places for cuts, a field that is further from the level at a node
+/// than there are numbers.
+fn cut_far_apart(cut_places: usize) -> Refusal {
+    let field = Field {
+        coefficients: &[f64::MAX; 2],
+        powers: &[3, 0, 0, 0, 3, 0],
+        levels: [f64::NEG_INFINITY, f64::MAX / 2.0],
+        bounds: [-1.0, 0.0, 0.0, 0.0, 1.0, 1.0],
+    };
+    cut(&field, 4, 1_000, cut_places)
 }
 
 /// Holds what several functions say to one refusal.
@@ -183,8 +206,10 @@ fn each_has_its_name() {
             convert_sheet(FINE, Edition::Second, 9),
             // A grid of 125 nodes has 375 values.
             sample(1.0, &[1, 0, 0], 4, 374),
+            cut_far_apart(2),
         ]),
         sample(f64::MAX, &[1, 0, 0], 4, 375),
+        cut_far_apart(1_000),
         convert_sheet(FINE, Edition::First, 9),
         outlines(&tetrahedron(), 32_768),
         outlines(&tetrahedron(), 0),
