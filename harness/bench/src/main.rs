@@ -1,10 +1,11 @@
 //! Prints the tables of docs/FIGURES.md:
 //! `cargo run --release -p bench -- [root] [check] [closing] [edit] [improve] [price] [nearest]
-//! [outlines] [sample]`.
+//! [outlines] [sample] [cut]`.
 //! Each table sets ours and theirs side by side, measured in this one run; where the original's
 //! source was not there, its times are those of doing nothing.
 mod check;
 mod closing;
+mod cut;
 mod edit;
 mod improve;
 mod nearest;
@@ -15,7 +16,7 @@ mod sample;
 mod table;
 
 /// A table's name and what prints it.
-const TABLES: [(&str, fn()); 9] = [
+const TABLES: [(&str, fn()); 10] = [
     ("root", root::table),
     ("check", check::table),
     ("closing", closing::table),
@@ -25,6 +26,7 @@ const TABLES: [(&str, fn()); 9] = [
     ("nearest", nearest::table),
     ("outlines", outlines::table),
     ("sample", sample::table),
+    ("cut", cut::table),
 ];
 
 fn main() {

@@ -33,7 +33,7 @@ pub fn table() {
 }
 
 /// So many terms: x·x alone, or those of a ball and smaller ones.
-fn terms(count: usize) -> Vec<Term> {
+pub fn terms(count: usize) -> Vec<Term> {
     let mut terms = BALL[..count.min(3)].to_vec();
     terms.extend(some_terms(&mut Random::new(1), count - terms.len(), 0.1));
     terms
