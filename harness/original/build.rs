@@ -1,7 +1,7 @@
 //! Takes the original's source from the folder that `LANOVISHEL_ORIGINAL` names, or from
 //! ../shared/docs/src beside the project, and makes document 01's edits and those that hand out
-//! what `extract` samples and solves. Each edit must match exactly once. Where no source is there, the cfg
-//! `original` is not set.
+//! what `extract` samples and solves. Each edit must match exactly once. Where no source is there,
+//! the cfg `original` is not set.
 use std::{
     env, fs,
     path::{Path, PathBuf},

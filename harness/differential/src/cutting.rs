@@ -69,7 +69,7 @@ impl Crossed<'_> {
         [0, 1, 2].map(|axis| from[axis] * (1.0 - t) + to[axis] * t)
     }
 
-    /// What is left of such values as are near the level.
+    /// The largest residual that is near enough.
     fn near(&self) -> f64 {
         let [a, b] = self.values.map(|value| (value - self.level).abs());
         let sizes = [a, b, self.level.abs(), f64::MIN_POSITIVE];
@@ -140,7 +140,7 @@ impl Crossed<'_> {
 }
 
 /// The level of a label.
-pub fn level(call: &Call, label: u32) -> f64 {
+fn level(call: &Call, label: u32) -> f64 {
     let [lower, upper] = call.levels;
     [upper, lower][label as usize]
 }
@@ -194,8 +194,8 @@ fn listed(call: &Call) -> Result<Samples, No> {
 }
 
 /// The call as the original has it, where it is one that passes what only we ask, and the original's
-/// source was there. Each edge must be as the model has it; only where the residual of a node is not
-/// finite the original does not ask, and is taken to refuse.
+/// source was there. Each edge must be as the model has it; but where the residual of a node is not
+/// finite, which the original does not ask, it is taken to refuse.
 pub fn originals(before: &Call, wanted: &Call, found: &[Found]) -> Option<Result<Call, String>> {
     if !matches!(wanted.number, 0 | 36 | 37) {
         return None;
@@ -209,6 +209,13 @@ pub fn originals(before: &Call, wanted: &Call, found: &[Found]) -> Option<Result
         Err(message) => return Some(Err(message)),
     };
     let samples = sampling::named(solved.samples);
+    if solved.roots.len() != found.len() {
+        return Some(Err(format!(
+            "roots: {}, not {}",
+            solved.roots.len(),
+            found.len()
+        )));
+    }
     let mut outcome = Ok((Vec::new(), 0));
     for ((edge, found), (root, taken)) in (0..).zip(found).zip(solved.roots) {
         if found.end == End::NoNode {

@@ -216,9 +216,8 @@ fn nodes_on_the_level() {
     }
 }
 
-/// Of the edges of a ball in four cells those between (1/2, 1/2, 0) and the like and the nodes inside
-/// are cut at a node. The sphere cuts every other one after two thirds of a diagonal, or so, and by
-/// secants from one side: all 52 values are taken.
+/// Twelve nodes, (1/2, 1/2, 0) and the like, are on the level, and 36 edges are cut there. On each other
+/// edge secants come in from one side, and all 52 values are taken; the first is cut after two thirds.
 #[test]
 fn ball_by_hand() {
     let after = answered(&call_of(&BALL, [f64::NEG_INFINITY, 0.5], AROUND, 4), 3);
@@ -237,8 +236,7 @@ fn ball_by_hand() {
     }
 }
 
-/// Some of the searches that take 52 values end midway, where the residual is not near 0, and some just
-/// then near enough.
+/// Of the searches that take 52 values some end with the last one, which is near enough, and some midway.
 #[test]
 fn all_rounds() {
     let call = call_of(&BALL, [f64::NEG_INFINITY, 0.5], AROUND, 4);
@@ -686,4 +684,16 @@ fn with_long_lists(call: &Call) -> Result<Cuts, u32> {
         cuts: threes(&after.cuts),
         fields: after.fields[0],
     })
+}
+
+/// Rounding alone makes this field differ from 0, and so cross its levels more often than a
+/// polynomial does: more edges than `cut` first has places for.
+#[test]
+fn more_edges_than_a_polynomial_has() {
+    let terms = [0.1, 0.2, -0.3].map(|q| (q, [1, 1, 1]));
+    let level = f64::EPSILON / 256.0;
+    let call = call_of(&terms, [-level, level], [0.1, 0.2, 0.3, 1.1, 1.3, 1.7], 40);
+    let wanted = with_long_lists(&call).unwrap();
+    assert!(wanted.lattice.edges.len() > 144 * 41 * 41);
+    assert_eq!(lanovishel::cut(&field::of(&call), 40), Ok(wanted));
 }
