@@ -3,3 +3,4 @@ pub mod Cutting
 pub mod Listing
 pub mod Answering
 pub mod Passing
+pub mod Ending

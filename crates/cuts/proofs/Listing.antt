@@ -11,8 +11,8 @@ use lib.Seq.{sets, drop-cons}
 use lib.Ieee.{Float}
 use borrow.Author.Tests.{le-leb, lt-leb}
 use Rattle.float.specs.declared.Point.{Point}
-use Rattle.field.specs.Valid.{every}
-use Rattle.field.proofs.Checks.{every-more, every-stops, every-ends}
+use Rattle.surface.specs.Check.{every}
+use Rattle.surface.proofs.All.{all-on, all-out, all-done}
 use Rattle.lattice.specs.Edges.{Edge, edgeWords}
 use Rattle.lattice.specs.Laws.{noEdge}
 use Rattle.lattice.proofs.Noting.{words-length}
@@ -85,7 +85,7 @@ module _ (solved : Edge → Solved) (cut : Edge → Point) (es : List Edge) (bef
       pub walk-turn : (p : Point) (t : ℕ) → p ≡ cut (getD es e noEdge) → t ≡ solved (getD es e noEdge) .taken → isCut (solved (getD es e noEdge) .cut) ≡ true
           → Walk solved cut es before (set (set (set now (e * 3) (p .x)) (e * 3 + 1) (p .y)) (e * 3 + 2) (p .z)) (fields + t) (e + 1)
       walk-turn p t ep et c = record {
-        whole = every-more (λ (x : Edge). isCut (solved x .cut)) es noEdge e h (w .whole) c;
+        whole = sym (all-on (λ (x : Edge). isCut (solved x .cut)) noEdge es e h c) ∙ w .whole;
         taken = taken-more t et;
         stored = stored-more p ep;
       }
@@ -116,7 +116,7 @@ module _ (solved : Edge → Solved) (cut : Edge → Point) (nodes : ℕ) (es : L
   module _ (room : length es * 3 ≤ length before) {now : List Float} (size : length now ≡ length before) {fields e : ℕ} (w : Walk solved cut es before now fields e) where
     pub refused-37 : e < length es → isCut (solved (getD es e noEdge) .cut) ≡ false → EdgesCut solved cut nodes es before now (Refused 37)
     unfolding allCut?
-    refused-37 h q = refused 37 (sym (broken solved nodes es (length before) room (sym (every-stops (λ (x : Edge). isCut (solved x .cut)) es noEdge e h (w .whole) q)))) size
+    refused-37 h q = refused 37 (sym (broken solved nodes es (length before) room (sym (w .whole) ∙ all-out (λ (x : Edge). isCut (solved x .cut)) noEdge es e h q))) size
 
     pub all-cut : (count : ℕ) → count ≡ length es → length es ≤ e → EdgesCut solved cut nodes es before now (Complete nodes count fields)
     unfolding allCut? fieldsTaken cutNumbers
@@ -124,7 +124,7 @@ module _ (solved : Edge → Solved) (cut : Edge → Point) (nodes : ℕ) (es : L
         let none : drop e es ≡ [] = drop-of-length-le es h in
         let taken : fields ≡ fieldsTaken solved es = sym (omega arith) ∙ sym (ap (λ (l : List Edge). fields + fieldsTaken solved l) none) ∙ w .taken in
         let stored : now ≡ sets before 0 (cutNumbers cut es) = sym (ap (λ (l : List Edge). sets now (e * 3) (cutNumbers cut l)) none) ∙ w .stored in
-        let whole : every (λ (x : Edge). isCut (solved x .cut)) es ≡ true = sym (every-ends (λ (x : Edge). isCut (solved x .cut)) es e h (w .whole)) in
+        let whole : every (λ (x : Edge). isCut (solved x .cut)) es ≡ true = sym (w .whole) ∙ all-done (λ (x : Edge). isCut (solved x .cut)) es e h in
         record {
           answer = ap₂ (λ (m t : ℕ). Complete nodes m t) c taken ∙ sym (complete solved nodes es (length before) room whole);
           size = size;

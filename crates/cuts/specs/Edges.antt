@@ -6,7 +6,7 @@ use lib.ListN.{getD}
 use lib.Ieee.{Float, nan}
 use Rattle.float.specs.declared.Point.{Point}
 use Rattle.float.specs.Point.{less}
-use Rattle.field.specs.Valid.{every}
+use Rattle.surface.specs.Check.{every}
 use Rattle.lattice.specs.Edges.{Edge, stepEnd, levelOf, valueAt}
 use Rattle.solve.specs.Solve.{residual, pointBetween, solve}
 use Rattle.solve.specs.declared.Cut.{Cut}

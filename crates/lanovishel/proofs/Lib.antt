@@ -8,3 +8,4 @@ pub mod SheetLaws
 pub mod Sample
 pub mod SampleLaws
 pub mod Cut
+pub mod CutLaws
