@@ -35,15 +35,15 @@ fn step_z(d: usize) -> usize
     steps[d]
 }
 
-// How far the step d goes on in the numbers of nodes.
+// How far the step d goes on in the numbers of nodes. (By a table of its own: `step_end` is asked of every step of
+// every node.)
 pub fn offset(n: usize, d: usize) -> usize
     requires { ⌜ (n ≤ 129) × (d < 7) ⌝ }
     ensures { λ r. ⌜ r ≡ Edges.offset n d ⌝ }
 {
-    let x = step_x(d);
-    let y = step_y(d);
-    let z = step_z(d);
-    x + n * y + n * n * z
+    let layer = n * n;
+    let offsets: [usize; 7] = [1, n, layer, 1 + n, 1 + layer, n + layer, 1 + n + layer];
+    offsets[d]
 }
 
 // Whether a level is finite and has one of two values below it and the other not. That it is finite is asked last,
@@ -108,7 +108,7 @@ fn step_end(n: usize, a: usize, p: Index, d: usize) -> usize
     if n <= p.z + z {
         return a;
     }
-    a + offset(n, d)
+    a + (x + n * y + n * n * z)
 }
 
 // The edges from node a of index p by the step d: label 0 is the upper level, 1 the lower.

@@ -1,7 +1,7 @@
 -- `lattice::edges::step_end` meets its contract. Assumes nothing.
 use native.Mathlib.Omega.{arith}
 use Rattle.lattice.specs.Stages.{InLattice}
-use Rattle.lattice.proofs.Indices.{Small, small, cube-small, at-node-inside, off-x, off-y, off-z, stays, offset-small}
+use Rattle.lattice.proofs.Indices.{Small, small, cube-small, at-node-inside, off-x, off-y, off-z, stays}
 use borrow.Author.Needs.{needs}
 use Rattle.lattice.proofs.edges.step_end.Statement.{statement}
 use Rattle.lattice.proofs.edges.step_end.Tie as tie
@@ -56,24 +56,33 @@ returns-3 c =
 abbrev found : tie.Else3 → tie.After-step-z
 found c = c .before .before .before .before .before .before
 
-offset-requires : tie.Need-offset-requires
-offset-requires c κs = search needs
+mul-result : tie.Need-mul-result
+mul-result c = let s = sizes (found c) in omega arith
 
 add-result : tie.Need-add-result
-add-result c =
-    let s = start (found (c .before)) in
-    let a = s .pre .0 .inside in
-    let q = cube-small (s .args .n) (s .pre .0 .few) in
-    let f = offset-small (s .args .n) (s .args .d) (s .pre .0 .few) in
-    let e = c .offset .ensures in
-    omega (arith, e)
+add-result c = let s = sizes (found c) in omega arith
+
+mul-result-2 : tie.Need-mul-result-2
+mul-result-2 c = let s = sizes (found c) in omega arith
+
+mul-result-3 : tie.Need-mul-result-3
+mul-result-3 c = let s = sizes (found c) in omega arith
+
+add-result-2 : tie.Need-add-result-2
+add-result-2 c = let s = sizes (found c) in omega arith
+
+add-result-3 : tie.Need-add-result-3
+add-result-3 c =
+    let s = sizes (found c) in
+    let a = start (found c) .pre .0 .inside in
+    let q = cube-small (start (found c) .args .n) (start (found c) .pre .0 .few) in
+    omega arith
 
 returns-4 : tie.Need-returns-4
 returns-4 c =
-    let e = c .before in
-    let z = found e in
+    let z = found c in
     let s = start z in
-    stays (s .args .n) (s .args .a) (s .args .d) (s .args .p) (s .pre .0) _ _ _ (z .before .before .step-x .ensures) (z .before .step-y .ensures) (z .step-z .ensures) _ (c .offset .ensures) (e .before .before .before .before .if1 .left) (e .before .before .if2 .left) (e .if3 .left)
+    stays (s .args .n) (s .args .a) (s .args .d) (s .args .p) (s .pre .0) _ _ _ (z .before .before .step-x .ensures) (z .before .step-y .ensures) (z .step-z .ensures) (c .before .before .before .before .if1 .left) (c .before .before .if2 .left) (c .if3 .left)
 
 pub step-end-spec : {M : Type 1} → statement M
 step-end-spec =
@@ -88,6 +97,10 @@ step-end-spec =
     returns-2
     add-if3
     returns-3
-    offset-requires
+    mul-result
     add-result
+    mul-result-2
+    mul-result-3
+    add-result-2
+    add-result-3
     returns-4)
