@@ -1,6 +1,7 @@
 -- `solve::bracket::signum` meets its contract. Assumes nothing.
 use mathlib.Core.Path.{sym, subst}
 use mathlib.Core.Bool.{true, false}
+use native.Mathlib.Omega.{arith}
 use lib.Dec.{T}
 use lib.Ieee.{binary64, fits, toBits, top}
 use borrow.Author.Tests.{le-leb, lt-leb}
@@ -19,10 +20,10 @@ float-to-bits-if2 : tie.Need-float-to-bits-if2
 float-to-bits-if2 c = no-nan (c .before .args .x) (c .if1 .left)
 
 returns-2 : tie.Need-returns-2
-returns-2 c = signum-bits (c .before .before .args .x) (held (c .before .before)) (c .before .if1 .left) true (le-leb (top binary64) (toBits binary64 (c .before .before .args .x)) (c .if2 .taken))
+returns-2 c = signum-bits (c .before .before .args .x) (held (c .before .before)) (c .before .if1 .left) true (le-leb (top binary64) (toBits binary64 (c .before .before .args .x)) (omega arith))
 
 returns-3 : tie.Need-returns-3
-returns-3 c = signum-bits (c .before .before .args .x) (held (c .before .before)) (c .before .if1 .left) false (lt-leb (top binary64) (toBits binary64 (c .before .before .args .x)) (c .if2 .left))
+returns-3 c = signum-bits (c .before .before .args .x) (held (c .before .before)) (c .before .if1 .left) false (lt-leb (top binary64) (toBits binary64 (c .before .before .args .x)) (omega arith))
 
 pub signum-spec : {M : Type 1} → statement M
 signum-spec = tie.close (tie.spec returns float-to-bits-if2 returns-2 returns-3)
