@@ -133,9 +133,9 @@ module _ (residual : Float → Float) (limit va : Float) where
   unfolding onward fromRound
   turn-last round k t h e = ap (λ (n : ℕ). fromRound residual limit va (52 - n) round k) h ∙ ap (λ (x : Float). ending (At x) round) (sym e)
 
-pub begins : (residual : Float → Float) (limit va vb : Float) → onward residual limit va 0 (firstBracket va vb) ≡ fromRound residual limit va 52 0 (firstBracket va vb)
+pub begins : (residual : Float → Float) (limit va : Float) (k : Bracket) → onward residual limit va 0 k ≡ fromRound residual limit va 52 0 k
 unfolding onward
-begins residual limit va vb = refl
+begins residual limit va k = refl
 
 -- ---- the tests before the rounds
 

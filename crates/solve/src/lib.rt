@@ -55,7 +55,7 @@ fn residual(coefficients: &[f64], powers: &[u32], a: Point, b: Point, level: f64
     field::value(coefficients, powers, point_between(a, b, t)) - level
 }
 
-// The rounds, from the residuals va and vb at the two nodes.
+// The rounds, from the bracket of the two nodes.
 fn take_rounds(
     coefficients: &[f64],
     powers: &[u32],
@@ -63,17 +63,10 @@ fn take_rounds(
     b: Point,
     level: f64,
     limit: f64,
-    va: f64,
-    vb: f64,
+    first: Bracket,
 ) -> Solved
-    ensures { λ r. ⌜ r ≡ Solve.fromRound (Solve.residual (now (coefficients .entry)) (now (powers .entry)) a b level) limit va 52 0 (Solve.firstBracket va vb) ⌝ }
+    ensures { λ r. ⌜ r ≡ Solve.fromRound (Solve.residual (now (coefficients .entry)) (now (powers .entry)) a b level) limit (first .flo) 52 0 first ⌝ }
 {
-    let first = Bracket {
-        lo: 0.0,
-        hi: 1.0,
-        flo: va,
-        fhi: vb,
-    };
     let mut k = first;
     let mut round: u64 = 0;
     while round < 52 {
@@ -91,7 +84,7 @@ fn take_rounds(
                 taken: round + 1,
             };
         }
-        k = narrowed(k, va, t, v);
+        k = narrowed(k, first.flo, t, v);
         round += 1;
     }
     Solved {
@@ -139,5 +132,11 @@ pub fn solve(
         };
     }
     let limit = tolerance(edge_scale(va, vb, level));
-    take_rounds(coefficients, powers, a, b, level, limit, va, vb)
+    let first = Bracket {
+        lo: 0.0,
+        hi: 1.0,
+        flo: va,
+        fhi: vb,
+    };
+    take_rounds(coefficients, powers, a, b, level, limit, first)
 }

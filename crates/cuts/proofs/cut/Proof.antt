@@ -31,7 +31,10 @@ mul-blank-numbers c =
     omega arith
 
 blank-numbers-requires : tie.Need-blank-numbers-requires
-blank-numbers-requires c κs = let n = picked (blanked c) in cut-room _ (asked (n .before .before) .ask-and-cut .ensures) (n .nodes .given .1) .1
+blank-numbers-requires c κs =
+    let n = picked (blanked c) in
+    let room = cut-room _ (asked (n .before .before) .ask-and-cut .ensures) (n .nodes .given .1) in
+    omega (arith, room .1)
 
 enum-known-why : tie.Need-enum-known-why
 enum-known-why c = search needs

@@ -6,23 +6,23 @@ use lib.Ieee as Ieee
 use lib.Ieee.{Float}
 use borrow.Author.Needs.{needs}
 use Rattle.field.proofs.Checks.{failed, held}
-use Rattle.solve.specs.Solve.{residual, fromRound, firstBracket}
+use Rattle.solve.specs.Solve.{residual, fromRound}
 use Rattle.solve.proofs.Turns.{onward, begins, turn-not-finite, turn-found, turn-again, turn-last}
 use Rattle.solve.proofs.take_rounds.Statement.{statement}
 use Rattle.solve.proofs.take_rounds.Tie as tie
 
 abbrev Inv-loop : tie.InvT-loop
-Inv-loop coefficients powers a b level limit va vb k₀ round₀ k round =
-    (round ≤ 52) × (onward (residual coefficients powers a b level) limit va round k ≡ fromRound (residual coefficients powers a b level) limit va 52 0 (firstBracket va vb))
+Inv-loop coefficients powers a b level limit first k₀ round₀ k round =
+    (round ≤ 52) × (onward (residual coefficients powers a b level) limit (first .flo) round k ≡ fromRound (residual coefficients powers a b level) limit (first .flo) 52 0 first)
 
 -- more than there are rounds
 abbrev μ-loop : tie.MeasureT-loop
-μ-loop coefficients powers a b level limit va vb k₀ round₀ k round = 100 - round
+μ-loop coefficients powers a b level limit first k₀ round₀ k round = 100 - round
 
 loop-holds : tie.Need-loop-holds Inv-loop μ-loop
 loop-holds c =
     let a = c .before .before .args in
-    (omega arith, begins (residual (a .coefficients .now) (a .powers .now) (a .a) (a .b) (a .level)) (a .limit) (a .va) (a .vb))
+    (omega arith, begins (residual (a .coefficients .now) (a .powers .now) (a .a) (a .b) (a .level)) (a .limit) (a .first .flo) (a .first))
 
 parameter-requires : tie.Need-parameter-requires Inv-loop μ-loop
 parameter-requires c κs = search needs
@@ -33,8 +33,8 @@ residual-requires c κs = search needs
 is-finite-requires : tie.Need-is-finite-requires Inv-loop μ-loop
 is-finite-requires c κs = search needs
 
-add-t17 : tie.Need-add-t17 Inv-loop μ-loop
-add-t17 c = search needs
+add-t15 : tie.Need-add-t15 Inv-loop μ-loop
+add-t15 c = search needs
 
 returns : tie.Need-returns Inv-loop μ-loop
 returns c =
@@ -43,15 +43,15 @@ returns c =
     let l = tries .before .before .loop in
     let field = residual (a .coefficients .now) (a .powers .now) (a .a) (a .b) (a .level) in
     let taken = c .before .before .residual in
-    sym (turn-not-finite field (a .limit) (a .va) (l .round) (l .k) (tries .parameter .result) (taken .result) (omega arith) (tries .parameter .ensures) (taken .ensures)
+    sym (turn-not-finite field (a .limit) (a .first .flo) (l .round) (l .k) (tries .parameter .result) (taken .result) (omega arith) (tries .parameter .ensures) (taken .ensures)
     (failed (c .before .is-finite .ensures) (c .if1 .taken)))
     ∙ l .inv .1
 
 magnitude-requires : tie.Need-magnitude-requires Inv-loop μ-loop
 magnitude-requires c κs = search needs
 
-add-t20 : tie.Need-add-t20 Inv-loop μ-loop
-add-t20 c = search needs
+add-t18 : tie.Need-add-t18 Inv-loop μ-loop
+add-t18 c = search needs
 
 returns-2 : tie.Need-returns-2 Inv-loop μ-loop
 returns-2 c =
@@ -60,7 +60,7 @@ returns-2 c =
     let l = tries .before .before .loop in
     let field = residual (a .coefficients .now) (a .powers .now) (a .a) (a .b) (a .level) in
     let taken = c .before .before .before .before .residual in
-    sym (turn-found field (a .limit) (a .va) (l .round) (l .k) (tries .parameter .result) (taken .result) (omega arith) (tries .parameter .ensures) (taken .ensures)
+    sym (turn-found field (a .limit) (a .first .flo) (l .round) (l .k) (tries .parameter .result) (taken .result) (omega arith) (tries .parameter .ensures) (taken .ensures)
     (held (c .before .before .before .is-finite .ensures) (c .before .before .if1 .left)) (ap (λ (x : Float). Ieee.le x (a .limit)) (sym (c .before .magnitude .ensures)) ∙ c .if2 .taken))
     ∙ l .inv .1
 
@@ -81,8 +81,8 @@ loop-again c =
     let field = residual (a .coefficients .now) (a .powers .now) (a .a) (a .b) (a .level) in
     let taken = c .before .before .before .before .before .residual in
     let again =
-    ap (onward field (a .limit) (a .va) (l .round + 1)) (c .narrowed .ensures)
-    ∙ sym (turn-again field (a .limit) (a .va) (l .round) (l .k) (tries .parameter .result) (taken .result) (omega arith) (tries .parameter .ensures) (taken .ensures)
+    ap (onward field (a .limit) (a .first .flo) (l .round + 1)) (c .narrowed .ensures)
+    ∙ sym (turn-again field (a .limit) (a .first .flo) (l .round) (l .k) (tries .parameter .result) (taken .result) (omega arith) (tries .parameter .ensures) (taken .ensures)
     (held (c .before .before .before .before .is-finite .ensures) (c .before .before .before .if1 .left)) (ap (λ (x : Float). Ieee.le x (a .limit)) (sym (c .before .before .magnitude .ensures)) ∙ c .before .if2 .left))
     ∙ l .inv .1 in
     (omega arith, again)
@@ -95,7 +95,7 @@ returns-3 c =
     let a = c .before .before .before .before .before .args in
     let l = c .before .before .loop in
     let field = residual (a .coefficients .now) (a .powers .now) (a .a) (a .b) (a .level) in
-    sym (turn-last field (a .limit) (a .va) (l .round) (l .k) (c .midway .result) (omega (arith, l .inv .0)) (c .midway .ensures)) ∙ l .inv .1
+    sym (turn-last field (a .limit) (a .first .flo) (l .round) (l .k) (c .midway .result) (omega (arith, l .inv .0)) (c .midway .ensures)) ∙ l .inv .1
 
 pub take-rounds-spec : {M : Type 1} → statement M
 take-rounds-spec =
@@ -107,10 +107,10 @@ take-rounds-spec =
     parameter-requires
     residual-requires
     is-finite-requires
-    add-t17
+    add-t15
     returns
     magnitude-requires
-    add-t20
+    add-t18
     returns-2
     narrowed-requires
     add-round

@@ -34,10 +34,10 @@ mul-if1 : tie.Need-mul-if1 Inv-loop μ-loop
 mul-if1 c = let k = began c .pre .counted in omega arith
 
 returns : tie.Need-returns Inv-loop μ-loop
-returns c = let s = began (c .before) in turning-35 (solved s) (cut s) (s .args .edges .now) (s .args .cuts .now) _ (c .if1 .taken)
+returns c = let s = began (c .before) in turning-35 (solved s) (cut s) (s .args .edges .now) (s .args .cuts .now) _ (omega arith)
 
 loop-holds : tie.Need-loop-holds Inv-loop μ-loop
-loop-holds c = let s = began (c .before) in turning-begins (solved s) (cut s) (s .args .edges .now) (s .args .cuts .now) (c .if1 .left)
+loop-holds c = let s = began (c .before) in turning-begins (solved s) (cut s) (s .args .edges .now) (s .args .cuts .now) (omega arith)
 
 cut-edge-requires : tie.Need-cut-edge-requires Inv-loop μ-loop
 cut-edge-requires c κs = let s = began (c .before .before .before) in let k = c .before .loop .inv .count in s .pre .at (c .before .loop .e) (omega arith)
