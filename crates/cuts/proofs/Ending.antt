@@ -13,7 +13,7 @@ use Rattle.float.specs.declared.Point.{Point}
 use Rattle.float.specs.Point.{less}
 use Rattle.float.specs.Order.{isFinite}
 use Rattle.surface.proofs.Bools.{both}
-use Rattle.field.specs.Sheet.{total, value}
+use Rattle.field.specs.Sheet.{valueSum, value}
 use Rattle.field.specs.Valid.{every}
 use Rattle.field.proofs.Sums.{same-point}
 use Rattle.lattice.specs.Node.{perSide, node}
@@ -50,15 +50,15 @@ map-fits g k (x ∷ xs) h zero = k x (h zero)
 map-fits g k (x ∷ xs) h (suc i) = map-fits g k xs (λ j. h (suc j)) i
 
 module _ (qs : List Float) (ns : List ℕ) where
-  total-fits : (t : ℕ) (p : Point) → Fits (total t qs ns p)
-  unfolding total ofBits fits
-  total-fits zero p = tt
-  total-fits (suc t) p = add-fits binary64 _ _
+  sum-fits : (t : ℕ) (p : Point) → Fits (valueSum t qs ns p)
+  unfolding valueSum ofBits fits
+  sum-fits zero p = tt
+  sum-fits (suc t) p = add-fits binary64 _ _
 
   sampled-fits : (bounds : List Float) (cells k i : ℕ) → Fits (getD (sampled qs ns bounds cells k) i nan)
   unfolding sampled fits
   sampled-fits bounds cells zero i = tt
-  sampled-fits bounds cells (suc k) i = end-fits (sampled qs ns bounds cells k) (value qs ns (node bounds cells k)) (sampled-fits bounds cells k) (total-fits _ (node bounds cells k)) i
+  sampled-fits bounds cells (suc k) i = end-fits (sampled qs ns bounds cells k) (value qs ns (node bounds cells k)) (sampled-fits bounds cells k) (sum-fits _ (node bounds cells k)) i
 
 onto-fits : (t level v : Float) → Fits level → Fits v → Fits (onto t level v)
 unfolding onto

@@ -8,7 +8,7 @@ use Rattle.float.specs.declared.Point.{Point}
 use Rattle.float.specs.Point.{plus, times, difference}
 use Rattle.field.specs.Number.{plusZero, one, minusOne}
 use Rattle.field.specs.Shape.{middle, formed, shape}
-use Rattle.field.specs.Sheet.{power, onTop, slopeX, slopeY, slopeZ, total, monomial, scaled, coefficient, powerX, powerY, powerZ, stretched, unit, gradient, wall, normal}
+use Rattle.field.specs.Sheet.{power, onTop, slopeX, slopeY, slopeZ, valueSum, monomial, scaled, coefficient, powerX, powerY, powerZ, stretched, unit, gradient, wall, normal}
 
 pub power-zero : (v : Float) (n : ℕ) → n ≡ 0 → one ≡ power v n
 unfolding power
@@ -64,11 +64,11 @@ slope-z-step t qs ns p s r e g =
     g ∙ ap (λ (v : Float). onTop (powerZ ns t) v (monomial (scaled (coefficient qs t) (powerZ ns t)) (powerX ns t) (powerY ns t) (powerZ ns t - 1) p)) e
     ∙ sym (ap (λ (n : ℕ). slopeZ n qs ns p) (add-one t))
 
-pub total-step : (t : ℕ) (qs : List Float) (ns : List ℕ) (p : Point) (s v : Float) → s ≡ total t qs ns p
+pub value-step : (t : ℕ) (qs : List Float) (ns : List ℕ) (p : Point) (s v : Float) → s ≡ valueSum t qs ns p
     → v ≡ monomial (coefficient qs t) (powerX ns t) (powerY ns t) (powerZ ns t) p
-    → plus s v ≡ total (t + 1) qs ns p
-unfolding total
-total-step t qs ns p s v e g = ap (λ (x : Float). plus x v) e ∙ ap (plus (total t qs ns p)) g ∙ sym (ap (λ (n : ℕ). total n qs ns p) (add-one t))
+    → plus s v ≡ valueSum (t + 1) qs ns p
+unfolding valueSum
+value-step t qs ns p s v e g = ap (λ (x : Float). plus x v) e ∙ ap (plus (valueSum t qs ns p)) g ∙ sym (ap (λ (n : ℕ). valueSum n qs ns p) (add-one t))
 
 -- ---- the sums of no terms, and the cases of a normal
 
@@ -84,9 +84,9 @@ pub slope-z-none : (qs : List Float) (ns : List ℕ) (p : Point) → plusZero �
 unfolding slopeZ
 slope-z-none qs ns p = refl
 
-pub total-none : (qs : List Float) (ns : List ℕ) (p : Point) → plusZero ≡ total 0 qs ns p
-unfolding total
-total-none qs ns p = refl
+pub value-none : (qs : List Float) (ns : List ℕ) (p : Point) → plusZero ≡ valueSum 0 qs ns p
+unfolding valueSum
+value-none qs ns p = refl
 
 pub normal-upper : (qs : List Float) (ns : List ℕ) (p : Point) (label : ℕ) → label ≡ 0 → stretched (unit (gradient qs ns p)) one ≡ normal qs ns p label
 unfolding normal

@@ -1,4 +1,4 @@
--- A field sheet: up to 64 terms q * x^i * y^j * z^k, the slopes of their sum and its normals, each operation rounded as IEEE 754 has it, in the order that is written.
+-- A field sheet: up to 64 terms q * x^i * y^j * z^k, their sum, its slopes and its normals, each operation rounded as IEEE 754 has it, in the order that is written.
 -- A sheet is two lists: the coefficients, and the powers, three to a term. Definitions only.
 use Prim.Native.Nat.{ℕ, zero, suc, _+_, _-_, _*_, _/_, _%_, min}
 use mathlib.Core.Bool.{cond}
@@ -77,15 +77,15 @@ slopeZ (suc t) qs ns p =
     (monomial (scaled (coefficient qs t) (powerZ ns t)) (powerX ns t) (powerY ns t) (powerZ ns t - 1) p)
 
 -- ((q·x^i)·y^j)·z^k, for every term
-unfoldable pub total : ℕ → List Float → List ℕ → Point → Float
+unfoldable pub valueSum : ℕ → List Float → List ℕ → Point → Float
 unfolding power
-total zero qs ns p = plusZero
-total (suc t) qs ns p = plus (total t qs ns p) (monomial (coefficient qs t) (powerX ns t) (powerY ns t) (powerZ ns t) p)
+valueSum zero qs ns p = plusZero
+valueSum (suc t) qs ns p = plus (valueSum t qs ns p) (monomial (coefficient qs t) (powerX ns t) (powerY ns t) (powerZ ns t) p)
 
 -- ---- the sheet at a point
 
 abbrev pub value : List Float → List ℕ → Point → Float
-value qs ns p = total (terms qs ns) qs ns p
+value qs ns p = valueSum (terms qs ns) qs ns p
 
 abbrev pub gradient : List Float → List ℕ → Point → Point
 gradient qs ns p = record {

@@ -1,4 +1,5 @@
-// A field given by a sheet of terms: its slopes and its normals, the shape of a triangle, and which sheets are taken.
+// A field given by a sheet of terms: its value, its slopes and its normals, the shape of a triangle, and which sheets
+// are taken.
 use float::Point;
 ghost use mathlib.Core.Path.{_≡_};
 ghost use Prim.Native.Nat.{_-_, _≤_};
@@ -195,12 +196,12 @@ pub fn shape(coefficients: &[f64], powers: &[u32], a: Point, b: Point, c: Point,
 }
 
 // Whether every number of a list is finite.
-pub fn all_finite(coefficients: &[f64]) -> bool
-    ensures { λ r. ⌜ r ≡ Valid.every isFinite (now (coefficients .entry)) ⌝ }
+pub fn all_finite(numbers: &[f64]) -> bool
+    ensures { λ r. ⌜ r ≡ Valid.every isFinite (now (numbers .entry)) ⌝ }
 {
     let mut t: usize = 0;
-    while t < coefficients.len() {
-        if !float::is_finite(coefficients[t]) {
+    while t < numbers.len() {
+        if !float::is_finite(numbers[t]) {
             return false;
         }
         t += 1;

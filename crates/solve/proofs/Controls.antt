@@ -6,7 +6,7 @@ use lib.Ieee.{Float, binary64, ofBits, toBits, neg, add, sub, mul, div, lt, le, 
 use Rattle.float.specs.declared.Point.{Point}
 use Rattle.float.specs.Point.{less}
 use Rattle.float.specs.Order.{isFinite, greater}
-use Rattle.field.specs.Sheet.{power, total}
+use Rattle.field.specs.Sheet.{power, valueSum}
 use Rattle.lattice.specs.Values.{magnitude}
 use Rattle.solve.specs.declared.Cut.{Cut}
 use Rattle.solve.specs.declared.Cut.the-variants.{First, Second, At, NotFinite}
@@ -83,5 +83,5 @@ answers =
     []
 
 pub controls : map solved edges ≡ answers
-unfolding edges answers solve fromRound parameter halves? narrowed residual edgeScale magnitude signum total power ofBits toBits neg add sub mul div lt le eq isNan isFinite greater
+unfolding edges answers solve fromRound parameter halves? narrowed residual edgeScale magnitude signum valueSum power ofBits toBits neg add sub mul div lt le eq isNan isFinite greater
 controls = refl

@@ -11,7 +11,7 @@ use Rattle.float.specs.declared.Point.{Point}
 use Rattle.float.specs.Point.{plus, less, times}
 use Rattle.float.specs.Order.{greater, isFinite}
 use Rattle.field.specs.Number.{plusZero, one, minusOne}
-use Rattle.field.specs.Sheet.{total, value}
+use Rattle.field.specs.Sheet.{valueSum, value}
 use Rattle.lattice.specs.Values.{leastNormal, magnitude, tolerance}
 use Rattle.solve.specs.declared.bracket.Bracket.{Bracket}
 use Rattle.solve.specs.declared.Cut.{Cut}
@@ -47,7 +47,7 @@ abbrev pub pointBetween : Point → Point → Float → Point
 pointBetween a b t = record { x = blended (a .x) (b .x) t; y = blended (a .y) (b .y) t; z = blended (a .z) (b .z) t }
 
 unfoldable pub residual : List Float → List ℕ → Point → Point → Float → Float → Float
-unfolding total
+unfolding valueSum
 residual qs ns a b level t = less (value qs ns (pointBetween a b t)) level
 
 -- ---- one round: its parameter, and the half that it leaves

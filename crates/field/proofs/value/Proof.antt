@@ -2,14 +2,14 @@
 use mathlib.Core.Path.{_≡_, ap, _∙_}
 use Prim.Native.Nat.{ℕ, _≤_, _-_}
 use native.Mathlib.Omega.{arith}
-use Rattle.field.specs.Sheet.{terms, total}
-use Rattle.field.proofs.Sums.{total-none, total-step}
+use Rattle.field.specs.Sheet.{terms, valueSum}
+use Rattle.field.proofs.Sums.{value-none, value-step}
 use borrow.Author.Needs.{needs}
 use Rattle.field.proofs.value.Statement.{statement}
 use Rattle.field.proofs.value.Tie as tie
 
 abbrev Inv-loop : tie.InvT-loop
-Inv-loop coefficients powers p n sum₀ t₀ sum t = (n ≡ terms coefficients powers) × (t ≤ n) × (sum ≡ total t coefficients powers p)
+Inv-loop coefficients powers p n sum₀ t₀ sum t = (n ≡ terms coefficients powers) × (t ≤ n) × (sum ≡ valueSum t coefficients powers p)
 
 abbrev μ-loop : tie.MeasureT-loop
 μ-loop coefficients powers p n sum₀ t₀ sum t = n - t
@@ -18,7 +18,7 @@ terms-requires : tie.Need-terms-requires Inv-loop μ-loop
 terms-requires c κs = search needs
 
 loop-holds : tie.Need-loop-holds Inv-loop μ-loop
-loop-holds c = (c .terms .ensures, omega arith, total-none _ _ _)
+loop-holds c = (c .terms .ensures, omega arith, value-none _ _ _)
 
 mul-q : tie.Need-mul-q Inv-loop μ-loop
 mul-q c = search needs
@@ -72,14 +72,14 @@ loop-again : tie.Need-loop-again Inv-loop μ-loop
 loop-again c =
     let a = c .before .before .before .before .before .before .before .before .before .before .args in
     let l = c .before .before .before .before .before .before .loop in
-    (l .inv .0, omega arith, total-step (l .t) (a .coefficients .now) (a .powers .now) (a .p) (l .sum) (c .monomial .result) (l .inv .2) (c .monomial .ensures))
+    (l .inv .0, omega arith, value-step (l .t) (a .coefficients .now) (a .powers .now) (a .p) (l .sum) (c .monomial .result) (l .inv .2) (c .monomial .ensures))
 
 returns : tie.Need-returns Inv-loop μ-loop
 returns c =
     let a = c .before .before .before .before .before .args in
     let l = c .before .loop in
     let e : l .t ≡ terms (a .coefficients .now) (a .powers .now) = omega arith in
-    l .inv .2 ∙ ap (λ (n : ℕ). total n (a .coefficients .now) (a .powers .now) (a .p)) e
+    l .inv .2 ∙ ap (λ (n : ℕ). valueSum n (a .coefficients .now) (a .powers .now) (a .p)) e
 
 pub value-spec : {M : Type 1} → statement M
 value-spec =
