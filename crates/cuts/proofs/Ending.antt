@@ -27,7 +27,7 @@ use Rattle.solve.specs.Laws.{CrossedValues}
 use Rattle.solve.proofs.Edge.{solve-laws}
 use Rattle.cuts.specs.Edges.{pointAt, levelIn, solvedIn, fieldsTaken, cutNumbers}
 use Rattle.cuts.specs.Call.{solvedEdge, edgeCutPoint}
-use Rattle.cuts.specs.Laws.{endNode, along, atNode, triedAlong, EdgeLaws, allTried, CutsLaws}
+use Rattle.cuts.specs.Laws.{endNode, edgeResidual, nodeResidual, triedAlong, EdgeLaws, allTried, CutsLaws}
 use Rattle.cuts.proofs.Answering.{edge-crossed}
 
 -- ---- f64s
@@ -109,7 +109,7 @@ module _ (f : SampledField) (finite : every isFinite (rawValues f) ≡ true) whe
 module _ (f : SampledField) (e : Edge) where
   edge-counted : solvedEdge f e .taken ≡ length (triedAlong f e)
   unfolding solvedIn
-  edge-counted = solve-laws .counted (along f e) (levelIn (f .levels) (e .label)) (atNode f e (e .node)) (atNode f e (endNode f e))
+  edge-counted = solve-laws .counted (edgeResidual f e) (levelIn (f .levels) (e .label)) (nodeResidual f e (e .node)) (nodeResidual f e (endNode f e))
 
   module _ (finite : every isFinite (rawValues f) ≡ true) (crossed : CrossedEdge (perSide (f .cells)) (lowerLevel f) (upperLevel f) (latticeValues f) e) where
     values-crossed : CrossedValues (valueAt (latticeValues f) (e .node)) (valueAt (latticeValues f) (endNode f e)) (levelIn (f .levels) (e .label))
@@ -125,9 +125,9 @@ module _ (f : SampledField) (e : Edge) where
     unfolding solvedIn levelIn
     edge-laws lower upper = record {
       bracketed = solve-laws .bracketed _ _ _ values-crossed;
-      ends = solve-laws .answered (along f e) _ _ _ values-crossed (value-fits f lower upper (e .node)) (value-fits f lower upper (endNode f e)) (level-fits (lowerLevel f) (upperLevel f) (e .label) lower upper);
+      ends = solve-laws .answered (edgeResidual f e) _ _ _ values-crossed (value-fits f lower upper (e .node)) (value-fits f lower upper (endNode f e)) (level-fits (lowerLevel f) (upperLevel f) (e .label) lower upper);
       counted = edge-counted;
-      few = solve-laws .few (along f e) (levelIn (f .levels) (e .label)) (atNode f e (e .node)) (atNode f e (endNode f e));
+      few = solve-laws .few (edgeResidual f e) (levelIn (f .levels) (e .label)) (nodeResidual f e (e .node)) (nodeResidual f e (endNode f e));
     }
 
 -- ---- all of them

@@ -25,21 +25,21 @@ pub record CutsAll (f : SampledField) (lent : CutLists) : Type 0 where
 abbrev pub endNode : SampledField → Edge → ℕ
 endNode f e = stepEnd (perSide (f .cells)) (e .node) (e .step)
 
-abbrev pub along : SampledField → Edge → Float → Float
-along f e = residualAlong (f .coefficients) (f .powers) (f .levels) (perSide (f .cells)) (latticeGrid f) (latticeValues f) e
+abbrev pub edgeResidual : SampledField → Edge → Float → Float
+edgeResidual f e = residualAlong (f .coefficients) (f .powers) (f .levels) (perSide (f .cells)) (latticeGrid f) (latticeValues f) e
 
-abbrev pub atNode : SampledField → Edge → ℕ → Float
-atNode f e a = residualOf (f .coefficients) (f .powers) (f .levels) (perSide (f .cells)) (latticeGrid f) (latticeValues f) e a
+abbrev pub nodeResidual : SampledField → Edge → ℕ → Float
+nodeResidual f e a = residualOf (f .coefficients) (f .powers) (f .levels) (perSide (f .cells)) (latticeGrid f) (latticeValues f) e a
 
 -- the parameters at which field values are taken for it
 abbrev pub triedAlong : SampledField → Edge → List Float
-triedAlong f e = parameters (along f e) (levelIn (f .levels) (e .label)) (atNode f e (e .node)) (atNode f e (endNode f e))
+triedAlong f e = parameters (edgeResidual f e) (levelIn (f .levels) (e .label)) (nodeResidual f e (e .node)) (nodeResidual f e (endNode f e))
 
 pub record EdgeLaws (f : SampledField) (e : Edge) : Type 0 where
   -- the Rust's "No bracket" does not happen
-  pub bracketed : Bracketed (atNode f e (e .node)) (atNode f e (endNode f e))
+  pub bracketed : Bracketed (nodeResidual f e (e .node)) (nodeResidual f e (endNode f e))
   -- it ends at a node on the level, within the tolerance, midway in an interval whose ends had residuals of opposite sign, or with a residual that is not finite
-  pub ends : EdgeEnds (along f e) (valueAt (latticeValues f) (e .node)) (valueAt (latticeValues f) (endNode f e)) (levelIn (f .levels) (e .label)) (solvedEdge f e)
+  pub ends : EdgeEnds (edgeResidual f e) (valueAt (latticeValues f) (e .node)) (valueAt (latticeValues f) (endNode f e)) (levelIn (f .levels) (e .label)) (solvedEdge f e)
   pub counted : solvedEdge f e .taken ≡ length (triedAlong f e)
   pub few : solvedEdge f e .taken ≤ 52
 

@@ -13,7 +13,7 @@ use Rattle.lattice.specs.Laws.{noEdge, Samples}
 use Rattle.solve.specs.Laws.{NodeFailed, Failed}
 use Rattle.cuts.specs.Edges.{pointAt, cutPoint, isCut}
 use Rattle.cuts.specs.Call.{CutLists, solvedEdge, cuttingOf, cutsNumber, cutsCounts, cutsFields, CutsGiven}
-use Rattle.cuts.specs.Laws.{CutsAll, endNode, along, atNode, EdgeLaws, allTried}
+use Rattle.cuts.specs.Laws.{CutsAll, endNode, edgeResidual, nodeResidual, EdgeLaws, allTried}
 
 pub record CutCall (f : SampledField) (lent after : CutLists) (counts′ fields′ : List ℕ) (number : ℕ) : Type 0 where
   pub answer : number ≡ cutsNumber (cuttingOf f lent)
@@ -42,7 +42,7 @@ pub record PlaceGiven (f : SampledField) (after : CutLists) (i : ℕ) : Type 0 w
 abbrev pub EdgeFails : SampledField → ℕ → Type 0
 EdgeFails f i =
     let e = listedEdge f i in
-    NodeFailed (atNode f e (e .node)) (atNode f e (endNode f e)) (solvedEdge f e) ⊎ Failed (along f e) (solvedEdge f e)
+    NodeFailed (nodeResidual f e (e .node)) (nodeResidual f e (endNode f e)) (solvedEdge f e) ⊎ Failed (edgeResidual f e) (solvedEdge f e)
 
 pub record CutLaws : Type 0 where
   -- 0 is answered just where the questions are passed
