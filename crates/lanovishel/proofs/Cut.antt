@@ -3,20 +3,26 @@ use mathlib.Core.Path.{_≡_, refl, sym, ap, _∙_, subst}
 use mathlib.Core.List.{List, [], _∷_}
 use Prim.Native.Nat.{ℕ, _%_, _^_, _≤_}
 use native.Mathlib.Omega.{arith}
-use Rattle.lattice.specs.Sample.{SampledField}
+use lib.Dec.{T}
+use lib.Ieee.{binary64, fits}
+use Rattle.lattice.specs.Sample.{SampledField, lowerLevel, upperLevel}
 use Rattle.cuts.specs.Call.{CutLists, cutsNumber, cutsCounts, cutsFields, CutsGiven, CutsCall}
 use Rattle.cuts.specs.declared.Cuts.{Cuts}
 use Rattle.cuts.specs.declared.Cuts.the-variants.{Complete, Refused}
 use Rattle.cuts.proofs.Passing.{small-counts}
-use Rattle.lanovishel.specs.Cut.{CutCall}
+use Rattle.lanovishel.specs.Cut.{F64Levels, CutCall}
 
-module _ {f : SampledField} {lent after : CutLists} {r : Cuts} (h : CutsCall f lent after r) where
+pub f64-levels : (f : SampledField) → T (fits binary64 (lowerLevel f)) → T (fits binary64 (upperLevel f)) → F64Levels f
+f64-levels f lower upper = record { lower = lower; upper = upper }
+
+module _ {f : SampledField} {lent after : CutLists} {r : Cuts} (h : CutsCall f lent after r) (levels : F64Levels f) where
   handed : (q : Cuts) → r ≡ q → {number : ℕ} {counts fields : List ℕ} → number ≡ cutsNumber q → counts ≡ cutsCounts q → fields ≡ cutsFields q ∷ [] → CutCall f lent after counts fields number
   handed q s n c t = record {
     answer = n ∙ ap cutsNumber (sym s ∙ h .answer);
     given = subst (λ (l : Cuts). CutsGiven l f lent after) (h .answer) (h .given);
     counts = c ∙ ap cutsCounts (sym s ∙ h .answer);
     fields = t ∙ ap (λ (l : Cuts). cutsFields l ∷ []) (sym s ∙ h .answer);
+    levels = levels;
   }
 
   -- the counts are as words what they are

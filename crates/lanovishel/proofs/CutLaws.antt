@@ -22,7 +22,7 @@ use Rattle.cuts.specs.declared.Cuts.{Cuts}
 use Rattle.cuts.proofs.Listing.{numbers-length}
 use Rattle.cuts.proofs.Passing.{zero-passes, passes-cut, zero-means, whole-at, fails-37}
 use Rattle.cuts.proofs.Ending.{cuts-laws, all-counted}
-use Rattle.lanovishel.specs.Cut.{CutCall, F64Levels, PlaceGiven, EdgeFails, CutLaws}
+use Rattle.lanovishel.specs.Cut.{CutCall, PlaceGiven, EdgeFails, CutLaws}
 
 -- a point of a list that has more behind it
 point-front : (l m : List Float) (i : ℕ) → i * 3 + 2 < length l → pointAt (thenBlank plusZero m l) i ≡ pointAt l i
@@ -35,10 +35,10 @@ module _ (f : SampledField) (lent after : CutLists) (counts fields : List ℕ) (
   given : after .cuts ≡ thenBlank plusZero (lent .cuts) (cutNumbers (edgeCutPoint f) (latticeEdges f))
   given = c .given .cuts ∙ ap (λ (r : Cuts). thenBlank plusZero (lent .cuts) (whenSampled (latticeIn r) (cutNumbers (edgeCutPoint f) (latticeEdges f)))) (passes-cut f lent passed)
 
-  place : F64Levels f → (i : ℕ) → i < length (latticeEdges f) → PlaceGiven f after i
+  place : (i : ℕ) → i < length (latticeEdges f) → PlaceGiven f after i
   unfolding cutIn
-  place levels i h =
-      let laws = cuts-laws f (passed .samples .finite) (levels .lower) (levels .upper) in
+  place i h =
+      let laws = cuts-laws f (passed .samples .finite) (c .levels .lower) (c .levels .upper) in
       let n = numbers-length (edgeCutPoint f) (latticeEdges f) in
       record {
         laws = laws .each i h;
@@ -57,11 +57,11 @@ module _ {along : Float → Float} {first second level : Float} where
   fails q (inr (inr (inr (inr (inl r))))) = absurd (true≢false (sym (ap (λ (s : Solved). isCut (s .cut)) (r .is)) ∙ q))
   fails q (inr (inr (inr (inr (inr r))))) = inr r
 
-refused : (f : SampledField) (lent after : CutLists) (counts fields : List ℕ) → CutCall f lent after counts fields 37 → F64Levels f → Samples f (lent .lattice) × ((i : ℕ) × (i < length (latticeEdges f)) × EdgeFails f i)
-refused f lent after counts fields c levels =
+refused : (f : SampledField) (lent after : CutLists) (counts fields : List ℕ) → CutCall f lent after counts fields 37 → Samples f (lent .lattice) × ((i : ℕ) × (i < length (latticeEdges f)) × EdgeFails f i)
+refused f lent after counts fields c =
     let r = fails-37 f lent (sym (c .answer)) in
     let i = r .1 .0 in
-    let laws = cuts-laws f (r .0 .finite) (levels .lower) (levels .upper) in
+    let laws = cuts-laws f (r .0 .finite) (c .levels .lower) (c .levels .upper) in
     (r .0, (i, r .1 .1, fails (r .1 .2) (laws .each i (r .1 .1) .ends)))
 
 pub cut-laws : CutLaws

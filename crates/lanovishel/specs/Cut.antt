@@ -1,4 +1,4 @@
--- `lanovishel_cut` for every call: document 02's number, the lists of `lanovishel_sample` and the cuts, which are 0 behind what is given and all 0 after a refusal, how many nodes, nodes, edges and cuts are given, and how many field values were taken on edges, all 0 after a refusal. The other lists are only read. Definitions only.
+-- `lanovishel_cut` for every call: document 02's number, the lists of `lanovishel_sample` and the cuts, which are 0 behind what is given and all 0 after a refusal, how many nodes, nodes, edges and cuts are given, and how many field values were taken on edges, all 0 after a refusal; and that its levels are f64s, as what stands in memory is. The other lists are only read. Definitions only.
 use Prim.Native.Nat.{ℕ, _<_}
 use mathlib.Core.Path.{_≡_}
 use mathlib.Core.Logic.{_⊎_, _↔_}
@@ -15,22 +15,23 @@ use Rattle.cuts.specs.Edges.{pointAt, cutPoint, isCut}
 use Rattle.cuts.specs.Call.{CutLists, solvedEdge, cuttingOf, cutsNumber, cutsCounts, cutsFields, CutsGiven}
 use Rattle.cuts.specs.Laws.{CutsAll, endNode, edgeResidual, nodeResidual, EdgeLaws, allTried}
 
+-- the levels are f64s; the logic's floats have other numbers, too
+pub record F64Levels (f : SampledField) : Type 0 where
+  pub lower : T (fits binary64 (lowerLevel f))
+  pub upper : T (fits binary64 (upperLevel f))
+
 pub record CutCall (f : SampledField) (lent after : CutLists) (counts′ fields′ : List ℕ) (number : ℕ) : Type 0 where
   pub answer : number ≡ cutsNumber (cuttingOf f lent)
   pub given : CutsGiven (cuttingOf f lent) f lent after
   pub counts : counts′ ≡ cutsCounts (cuttingOf f lent)
   pub fields : fields′ ≡ cutsFields (cuttingOf f lent) ∷ []
+  pub levels : F64Levels f
 
 -- ---- what is proved of calls, in `proofs/CutLaws`
 
 -- edge i of the list
 abbrev pub listedEdge : SampledField → ℕ → Edge
 listedEdge f i = getD (latticeEdges f) i noEdge
-
--- the levels of a call are f64s
-pub record F64Levels (f : SampledField) : Type 0 where
-  pub lower : T (fits binary64 (lowerLevel f))
-  pub upper : T (fits binary64 (upperLevel f))
 
 -- the cut in place i: how edge i ends, not by a residual that is not finite, and its point between the edge's nodes
 pub record PlaceGiven (f : SampledField) (after : CutLists) (i : ℕ) : Type 0 where
@@ -48,9 +49,9 @@ pub record CutLaws : Type 0 where
   -- 0 is answered just where the questions are passed
   pub zero-asked : (f : SampledField) (lent after : CutLists) (counts′ fields′ : List ℕ) (number : ℕ) → CutCall f lent after counts′ fields′ number → (number ≡ 0) ↔ CutsAll f lent
   -- every listed edge has its cut then
-  pub places-given : (f : SampledField) (lent after : CutLists) (counts′ fields′ : List ℕ) → CutCall f lent after counts′ fields′ 0 → F64Levels f → (i : ℕ) → i < length (latticeEdges f) → PlaceGiven f after i
+  pub places-given : (f : SampledField) (lent after : CutLists) (counts′ fields′ : List ℕ) → CutCall f lent after counts′ fields′ 0 → (i : ℕ) → i < length (latticeEdges f) → PlaceGiven f after i
   -- the field values that were taken are as many as there are rounds
   pub fields-given : (f : SampledField) (lent after : CutLists) (counts′ fields′ : List ℕ) → CutCall f lent after counts′ fields′ 0 → fields′ ≡ length (allTried f (latticeEdges f)) ∷ []
   -- 37 is answered only where an edge of a sampled field fails
-  pub refused-37 : (f : SampledField) (lent after : CutLists) (counts′ fields′ : List ℕ) → CutCall f lent after counts′ fields′ 37 → F64Levels f
+  pub refused-37 : (f : SampledField) (lent after : CutLists) (counts′ fields′ : List ℕ) → CutCall f lent after counts′ fields′ 37
       → Samples f (lent .lattice) × ((i : ℕ) × (i < length (latticeEdges f)) × EdgeFails f i)

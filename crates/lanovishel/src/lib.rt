@@ -12,7 +12,8 @@ use writing::Written;
 ghost use mathlib.Core.Path.{_≡_};
 ghost use mathlib.Core.List.{[], _∷_};
 ghost use Prim.Native.Nat.{_%_, _^_};
-ghost use lib.Ieee.{binary64};
+ghost use lib.Dec.{T};
+ghost use lib.Ieee.{binary64, fits};
 ghost use Rattle.float.specs.Root.{root};
 ghost use Rattle.writing.specs.Written.{writtenNumber, writtenLength};
 ghost use Rattle.lanovishel.specs.Check.{Checked};
@@ -347,6 +348,8 @@ pub extern "C" fn lanovishel_cut(
 ) -> u32
     ensures { λ r. ⌜ CutCall (told (now (coefficients .entry)) (now (powers .entry)) (now (levels .entry)) (now (bounds .entry)) cells) (cutLists (lists (now (grid .entry)) (now (values .entry)) (now (edges .entry))) (now (cuts .entry))) (cutLists (lists (now (grid .exit)) (now (values .exit)) (now (edges .exit))) (now (cuts .exit))) (now (counts .exit)) (now (fields .exit)) r ⌝ }
 {
+    known_f64(levels[0]);
+    known_f64(levels[1]);
     match cuts::cut(
         coefficients,
         powers,
@@ -375,6 +378,11 @@ pub extern "C" fn lanovishel_cut(
         }
     }
 }
+
+// Does nothing: what is lent is an f64, of which the logic's floats are more.
+fn known_f64(x: f64)
+    ensures { λ _. ⌜ T (fits binary64 x) ⌝ }
+{}
 
 // A count as a word.
 fn low_word(n: usize) -> u32
