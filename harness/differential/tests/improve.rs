@@ -87,3 +87,46 @@ fn a_tetrahedron_with_a_short_side() {
         assert_eq!(theirs.faces, [[0, 1, 2], [0, 2, 1]]);
     }
 }
+
+/// Smallest inputs of docs/DIFFERENCES.md that the original takes and ours refuses.
+#[test]
+fn taken_by_the_original_alone() {
+    let call = |change: fn(&mut Call)| {
+        let surface = octahedron();
+        let words = surface.work_words();
+        let mut call = Call::new(surface, words);
+        (call.coefficients, call.powers) = (vec![1.0], vec![2, 0, 0]);
+        (call.levels, call.bounds) = ([0.0, 1.0], [-2., -2., -2., 2., 2., 2.]);
+        call.rounds = 1;
+        change(&mut call);
+        call
+    };
+    let open_without_rounds = call(|call| {
+        call.surface = Surface {
+            points: vec![0., 0., 0., 1., 0., 0., 0., 1., 0.],
+            corners: vec![0, 1, 2],
+            labels: vec![0],
+        };
+        call.rounds = 0;
+    });
+    let coefficient_not_finite =
+        call(|call| (call.coefficients, call.powers) = (vec![f64::INFINITY], vec![0, 0, 0]));
+    let box_too_far =
+        call(|call| call.bounds = [0., 0., 0., 1., 1., 2f64.powi(20) + 2f64.powi(-32)]);
+    let box_too_thin =
+        call(|call| call.bounds = [0., 0., 0., 1., 1., 2f64.powi(-20) - 2f64.powi(-73)]);
+    assert_eq!(improving::ours(&call(|_| ())).number, 0);
+    for (call, number) in [
+        (open_without_rounds, 32),
+        (coefficient_not_finite, 13),
+        (box_too_far, 13),
+        (box_too_thin, 13),
+    ] {
+        assert_eq!(improving::ours(&call).number, number);
+        let mut theirs = checking::mesh(&call.surface);
+        let rounds = call.rounds as usize;
+        if let Some(flips) = original::improve(&mut theirs, &told(&call), rounds) {
+            assert!(flips.is_ok(), "{number}: {flips:?}");
+        }
+    }
+}
