@@ -185,9 +185,14 @@ module _ (f : Sheet) (m : Mesh) (c : Closed (m .pair .tris)) where
           absurd (o (x .keep) (x .remove) _ _ i (tetrahedron-four (m .pair) c (x .keep) (x .remove) g e))
       pick false e = e
 
+  -- the pair after the collapse pass is the same
+  pub same-dropped : Spared f m → dropped true f m ≡ dropped false f m
+  unfolding dropped
+  same-dropped o = ap (result (m .pair)) (same-pass (seen f (m .points)) (m .pair) (collapseStart (m .pair)) (candidates (seen f (m .points)) (m .pair) (count m)) (spared-off o))
+
   pub same-round : Spared f m → round true f m ≡ round false f m
-  unfolding round dropped
-  same-round o = ap after (ap (result (m .pair)) (same-pass (seen f (m .points)) (m .pair) (collapseStart (m .pair)) (candidates (seen f (m .points)) (m .pair) (count m)) (spared-off o)))
+  unfolding round
+  same-round o = ap after (same-dropped o)
     where
       after : Pair → Result
       after d = let n = numbered (m .points) d in record { mesh = record { points = n .points; pair = flipped f n }; flips = flips f n }
