@@ -1,22 +1,28 @@
 -- Demand 3 of the rounds: it holds of every call of `improve` that is let in, by what `improve` promises of every call and by the theorems on rounds.
 use Prim.Native.Nat.{ℕ, _/_, _≤_}
 use mathlib.Core.Path.{_≡_, refl, sym, ap, _∙_}
+use mathlib.Core.Bool.{Bool, false, _||_}
 use mathlib.Core.List.{List}
 use native.Mathlib.Omega.{arith}
 use lib.Dec.{leb}
 use lib.ListN.{length}
 use lib.Ieee.{Float}
 use Rattle.field.specs.Valid.{sheetOk}
+use Rattle.surface.specs.Triangle.{triangles}
+use Rattle.surface.proofs.Bools.{or-none}
 use Rattle.questions.specs.Questions.{ask, surfaceQuestions}
 use Rattle.questions.specs.Refusal.{askedNumber}
+use Rattle.questions.specs.Labels.{both, opposed}
 use Rattle.questions.specs.Admitted.{Admitted}
 use Rattle.questions.specs.declared.Asked.{Asked}
 use Rattle.questions.specs.declared.Asked.the-variants as asked
 use Rattle.questions.proofs.Laws.{passed-admitted, first-passed}
 use Rattle.questions.proofs.Telling.{Telling, passed-telling, ask-telling, then-telling, surface-telling}
 use Rattle.oracle.specs.Round.{Result, count}
+use Rattle.oracle.specs.Safe.{SafeAfter}
 use Rattle.oracle.proofs.Safe.{safe-after}
-use Rattle.oracle.proofs.Domain.{same-rounds}
+use Rattle.original.proofs.Domain.{improve-is}
+use Rattle.original.proofs.Admitted.{admitted-valid}
 use Rattle.flips.specs.Whole.{meshOf, sheetOf}
 use Rattle.improving.specs.Improve.{numberOf, improveQuestions, improved, answerOf, Improving}
 use Rattle.improving.specs.Demand3.{Demand3}
@@ -50,6 +56,13 @@ zero-improved {points₀} {corners₀} {labels₀} {work₀} {coefficients} {pow
     let made = improved points₀ corners₀ labels₀ coefficients powers n in
     r .answer ∙ ap (λ (a : Asked). answerOf a made) (improve-telling points₀ corners₀ labels₀ work₀ coefficients powers levels bounds n (sym (number-is q made) ∙ ap numberOf (sym (r .answer)) ∙ z))
 
+none-of-four : (p q r s : Bool) → (p || (q || (r || s))) ≡ false → (p ≡ false) × (q ≡ false) × (r ≡ false) × (s ≡ false)
+none-of-four p q r s e =
+    let a = or-none p (q || (r || s)) e in
+    let b = or-none q (r || s) (a .1) in
+    let c = or-none r s (b .1) in
+    (a .0, b .0, c .0, c .1)
+
 module _ {points₀ : List Float} {corners₀ labels₀ work₀ : List ℕ} {coefficients : List Float} {powers : List ℕ} {levels bounds : List Float} {n : ℕ} {points₁ : List Float} {corners₁ labels₁ work₁ : List ℕ} {p t k : ℕ}
     (r : Improving points₀ corners₀ labels₀ work₀ coefficients powers levels bounds n points₁ corners₁ labels₁ work₁ (Improved p t k)) where
   answered : (improveQuestions points₀ corners₀ labels₀ work₀ coefficients powers levels bounds n ≡ asked.Passed) × (p ≡ count (improved points₀ corners₀ labels₀ coefficients powers n .mesh))
@@ -63,6 +76,15 @@ module _ {points₀ : List Float} {corners₀ labels₀ work₀ : List ℕ} {coe
   fine : Fine (length points₀ / 3) (length labels₀) (meshOf points₀ corners₀ labels₀)
   fine = fine-first (improvable-of passed)
 
+  after : (i : ℕ) → SafeAfter (sheetOf coefficients powers) (meshOf points₀ corners₀ labels₀) i
+  after i = safe-after (sheetOf coefficients powers) i (meshOf points₀ corners₀ labels₀) (passed .closed) (fine .labelled)
+
+  unopposed : (i v : ℕ) → opposed (improved points₀ corners₀ labels₀ coefficients powers i .mesh .pair .tris) (improved points₀ corners₀ labels₀ coefficients powers i .mesh .pair .labels) v ≡ false
+  unopposed i v = rw (after i .unopposed 0 1 (λ x. apart x .0) v, after i .unopposed 2 3 (λ x. apart x .1) v, after i .unopposed 4 5 (λ x. apart x .2) v, after i .unopposed 6 7 (λ x. apart x .3) v) refl
+    where
+      apart : (x : ℕ) → (both (triangles corners₀) labels₀ x 0 1 ≡ false) × (both (triangles corners₀) labels₀ x 2 3 ≡ false) × (both (triangles corners₀) labels₀ x 4 5 ≡ false) × (both (triangles corners₀) labels₀ x 6 7 ≡ false)
+      apart x = none-of-four (both (triangles corners₀) labels₀ x 0 1) (both (triangles corners₀) labels₀ x 2 3) (both (triangles corners₀) labels₀ x 4 5) (both (triangles corners₀) labels₀ x 6 7) (passed .unopposed x)
+
   pub demand3 : Demand3 points₀ corners₀ labels₀ coefficients powers n points₁ corners₁ labels₁ p t k
   demand3 =
       let g = fine-after (sheetOf coefficients powers) fine n in
@@ -72,14 +94,16 @@ module _ {points₀ : List Float} {corners₀ labels₀ work₀ : List ℕ} {coe
       let b = g .few-triangles in
       let c = g .labelled in
       record {
-        safe = λ i. safe-after (sheetOf coefficients powers) i (meshOf points₀ corners₀ labels₀) (passed .closed) (fine .labelled);
+        safe = after;
         holds = record { points = r .points; corners = r .corners; labels = r .labels };
         points = answered .1;
         triangles = answered .2;
         flips = answered .3;
         no-more-points = omega arith;
         no-more-triangles = omega arith;
-        original = same-rounds (sheetOf coefficients powers) (passed .closed) (fine .labelled);
+        known = λ i. after i .known 7 (passed .known);
+        unopposed = unopposed;
+        original = improve-is (sheetOf coefficients powers) n (meshOf points₀ corners₀ labels₀) (passed .closed) (admitted-valid passed);
       }
 
   -- so few that they fit a word

@@ -1,13 +1,16 @@
--- The last sentence of demand 3 (document 01, "Entry and journal"), of a whole call of `improve`; `demand3` of proofs/Demand3 proves it of every call that is let in. With `demand3` of `editing` demand 3 is complete. Definitions only.
+-- The last sentence of demand 3 (document 01, "Entry and journal"), of a whole call of `improve`, and that the call does what the Rust does; `demand3` of proofs/Demand3 proves it of every call that is let in. With `demand3` of `editing` demand 3 is complete. Definitions only.
 use Prim.Native.Nat.{ℕ, _/_, _≤_}
 use mathlib.Core.Path.{_≡_}
 use mathlib.Core.Bool.{false}
 use mathlib.Core.List.{List}
 use lib.ListN.{length}
 use lib.Ieee.{Float}
-use Rattle.oracle.specs.Round.{count, rounds}
-use Rattle.oracle.specs.Safe.{SafeAfter}
-use Rattle.oracle.specs.Domain.{Domain}
+use Rattle.questions.specs.Labels.{opposed}
+use Rattle.oracle.specs.Round.{count}
+use Rattle.oracle.specs.Safe.{AtMost, SafeAfter}
+use Rattle.original.specs.Flip.{done}
+use Rattle.original.specs.Improve.{improve}
+use Rattle.original.specs.Domain.{Domain}
 use Rattle.flips.specs.Whole.{meshOf, sheetOf}
 use Rattle.improving.specs.Rounded.{Holds}
 use Rattle.improving.specs.Improve.{improved}
@@ -24,5 +27,8 @@ pub record Demand3 (points₀ : List Float) (corners₀ labels₀ : List ℕ) (c
   pub flips : k ≡ improved points₀ corners₀ labels₀ coefficients powers n .flips
   pub no-more-points : p ≤ length points₀ / 3
   pub no-more-triangles : t ≤ length labels₀
-  -- Within document 01's domain the rounds are the original's.
-  pub original : Domain (sheetOf coefficients powers) n (meshOf points₀ corners₀ labels₀) → improved points₀ corners₀ labels₀ coefficients powers n ≡ rounds false (sheetOf coefficients powers) n (meshOf points₀ corners₀ labels₀)
+  -- After every number i of rounds labels are at most 7, and no corner carries both 0 and 1, 2 and 3, 4 and 5, or 6 and 7.
+  pub known : (i : ℕ) → AtMost 7 (improved points₀ corners₀ labels₀ coefficients powers i .mesh .pair .labels)
+  pub unopposed : (i v : ℕ) → opposed (improved points₀ corners₀ labels₀ coefficients powers i .mesh .pair .tris) (improved points₀ corners₀ labels₀ coefficients powers i .mesh .pair .labels) v ≡ false
+  -- Within document 01's domain the Rust's `improve`, written down in crate original, gives no Err and makes of the surface what we make of it, with as many edits.
+  pub original : Domain (sheetOf coefficients powers) n (meshOf points₀ corners₀ labels₀) → improve (sheetOf coefficients powers) n (meshOf points₀ corners₀ labels₀) ≡ done (improved points₀ corners₀ labels₀ coefficients powers n)

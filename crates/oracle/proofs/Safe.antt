@@ -8,6 +8,7 @@ use native.Mathlib.Omega.{arith}
 use lib.ListN.{length, getD}
 use lib.Ieee.{Float}
 use Rattle.surface.specs.Closed.{InUse, Closed}
+use Rattle.surface.proofs.Formula.{same-euler}
 use Rattle.history.specs.History.{Pair, Entry}
 use Rattle.rounds.specs.Renumber.{index, firstUse, number}
 use Rattle.rounds.specs.Pass.{result}
@@ -15,7 +16,6 @@ use Rattle.rounds.specs.Choices as choices
 use Rattle.rounds.specs.Choices.{Decision, collapseStart, collapsesOf}
 use Rattle.rounds.specs.Round.{Round}
 use Rattle.rounds.proofs.FirstUse.{index-get, in-first}
-use Rattle.rounds.proofs.EulerSteps.{euler-refl, euler-trans}
 use Rattle.rounds.proofs.Rounds.{round-of, round-of-corners}
 use Rattle.oracle.specs.Scene.{Scene, pointAt}
 use Rattle.oracle.specs.Rising.{rising}
@@ -24,8 +24,9 @@ use Rattle.oracle.specs.Slivers.{better}
 use Rattle.oracle.specs.Points.{gathered}
 use Rattle.oracle.specs.Gains.{helps}
 use Rattle.oracle.specs.Round.{Mesh, Sheet, seen, count, dropped, numbered, flipped, flips, round, rounds}
-use Rattle.oracle.specs.Safe.{collapseEntries, middle, flipEntries, Safe, after, SafeAfter}
+use Rattle.oracle.specs.Safe.{collapseEntries, middle, flipEntries, Safe, after, AtMost, SafeAfter}
 use Rattle.oracle.proofs.Passes.{allows, pass-is, collapses-is}
+use Rattle.oracle.proofs.Labels.{round-labels, round-apart, retain-most}
 
 -- the points of a list of corners
 gathered-length : (ps : List Float) (vs : List ℕ) → length (gathered ps vs) ≡ length vs * 3
@@ -92,9 +93,15 @@ module _ (f : Sheet) (m : Mesh) where
       points = λ x i. let k = in-first (dropped true f m .tris) x i in
           gathered-at (m .points) (firstUse (dropped true f m .tris)) (index (firstUse (dropped true f m .tris)) x) k
           ∙ ap (pointAt (m .points)) (index-get (firstUse (dropped true f m .tris)) x k);
+      labels = round-labels (record { closed = c; labelled = l }) edits;
       whole = gathered-length (m .points) (firstUse (dropped true f m .tris)) ∙ ap (λ (k : ℕ). k * 3) (sym counts);
       used = λ w. subst (λ (k : ℕ). InUse (flipped f (middle f m) .tris) w ↔ (w < k)) (sym counts) (corners w);
     }
+
+-- the labels of a round are some of those before it
+round-most : (f : Sheet) (m : Mesh) (most : ℕ) → AtMost most (m .pair .labels) → AtMost most (round true f m .mesh .pair .labels)
+unfolding round flipped numbered dropped
+round-most f m most h = retain-most most _ (m .pair .labels) h
 
 -- n + 1 rounds are n rounds and then one
 made : (f : Sheet) (n : ℕ) (m : Mesh) → after f (suc n) m ≡ round true f (after f n m) .mesh
@@ -112,7 +119,9 @@ unfolding rounds
 safe-after f zero m c l = record {
   closed = c;
   labelled = l;
-  euler = λ k b. (b, euler-refl k (m .pair .tris));
+  known = λ most h. h;
+  unopposed = λ i j h. h;
+  euler = λ k b. (b, refl);
   next = safe f m c l;
   made = made f 0 m;
   counted = counted f 0 m;
@@ -124,7 +133,9 @@ safe-after f (suc n) m c l =
     record {
       closed = a .closed;
       labelled = a .labelled;
-      euler = λ k b. let x = a .euler k (e .below k b) in (x .0, euler-trans k (m .pair .tris) (r .pair .tris) (after f (suc n) m .pair .tris) (e .euler k b) (x .1));
+      known = λ most h. a .known most (round-most f m most h);
+      unopposed = λ i j h. a .unopposed i j (round-apart (record { closed = c; labelled = l }) e i j h);
+      euler = λ k b. let x = a .euler k (e .below k b) in (x .0, x .1 ∙ same-euler k (m .pair .tris) (r .pair .tris) (e .euler k b));
       next = a .next;
       made = made f (suc n) m;
       counted = counted f (suc n) m;

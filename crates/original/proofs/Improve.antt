@@ -39,7 +39,7 @@ and-among = bin-ind (λ (n : ℕ). (b : ℕ) → ((k : ℕ) → digit k b ≤ di
     digit-none zero = refl
     digit-none (suc k) = digit-none k
 
-digit-and : (k a b : ℕ) → digit k (bitAnd a b) ≡ min (digit k a) (digit k b)
+pub digit-and : (k a b : ℕ) → digit k (bitAnd a b) ≡ min (digit k a) (digit k b)
 digit-and zero a b = let v = and-step a b in omega arith
 digit-and (suc k) a b = let z : bitAnd a b / 2 ≡ bitAnd (a / 2) (b / 2) = omega (arith, and-step a b) in ap (digit k) z ∙ digit-and k (a / 2) (b / 2)
 

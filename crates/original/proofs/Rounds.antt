@@ -23,9 +23,9 @@ use Rattle.oracle.specs.Candidates.{candidates}
 use Rattle.oracle.specs.Points.{gathered}
 use Rattle.oracle.specs.Slivers.{pass}
 use Rattle.oracle.specs.Round.{Mesh, Sheet, Result, seen, count, dropped, numbered, flipped, flips, round}
-use Rattle.oracle.specs.Domain.{Spared}
+use Rattle.oracle.specs.Spared.{Spared}
 use Rattle.oracle.proofs.Safe.{safe}
-use Rattle.oracle.proofs.Domain.{same-dropped}
+use Rattle.oracle.proofs.Spared.{same-dropped}
 use Rattle.original.specs.Collapse as slivers
 use Rattle.original.specs.Flip.{Loop, loop, Outcome, done, then, flipping}
 use Rattle.original.specs.Round as text

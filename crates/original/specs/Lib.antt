@@ -8,3 +8,4 @@ pub mod Sorted
 pub mod Flip
 pub mod Round
 pub mod Improve
+pub mod Domain

@@ -25,7 +25,7 @@ use Rattle.oracle.specs.Scene.{Scene}
 use Rattle.oracle.specs.Candidates.{candidates}
 use Rattle.oracle.specs.Slivers.{valid, better, tetrahedron, accepts, pass, collapses}
 use Rattle.oracle.specs.Round.{Mesh, Sheet, Result, seen, count, dropped, numbered, flipped, flips, round, rounds}
-use Rattle.oracle.specs.Domain.{Four, originals, Spared, Domain, begun, further, NoFour, none-met, none-further}
+use Rattle.oracle.specs.Spared.{Four, originals, Spared, SparedRounds, begun, further}
 use Rattle.oracle.proofs.Safe.{safe}
 
 module _ (s : Scene) (p : Pair) where
@@ -197,7 +197,7 @@ module _ (f : Sheet) (m : Mesh) (c : Closed (m .pair .tris)) where
       after : Pair → Result
       after d = let n = numbered (m .points) d in record { mesh = record { points = n .points; pair = flipped f n }; flips = flips f n }
 
-pub same-rounds : (f : Sheet) {n : ℕ} {m : Mesh} → Closed (m .pair .tris) → length (m .pair .labels) ≡ length (m .pair .tris) → Domain f n m → rounds true f n m ≡ rounds false f n m
+pub same-rounds : (f : Sheet) {n : ℕ} {m : Mesh} → Closed (m .pair .tris) → length (m .pair .labels) ≡ length (m .pair .tris) → SparedRounds f n m → rounds true f n m ≡ rounds false f n m
 unfolding rounds
 same-rounds f c l begun = refl
 same-rounds f {m = m} c l (further {n = n} o d) =
@@ -209,8 +209,3 @@ same-rounds f {m = m} c l (further {n = n} o d) =
   where
     with : Result → Result → Result
     with r s = record { mesh = s .mesh; flips = r .flips + s .flips }
-
--- document 01's domain lies within it
-pub no-four-domain : (f : Sheet) {n : ℕ} {m : Mesh} → NoFour f n m → Domain f n m
-no-four-domain f none-met = begun
-no-four-domain f (none-further o w) = further (λ a b c d i q. o a b c d q) (no-four-domain f w)

@@ -1,4 +1,4 @@
--- Where our rounds are the original's (document 01, "Round"): the original collapses no side of a piece of just four corners. Definitions only.
+-- Rounds in which the skip makes no difference: without it, too, no side of a piece of just four corners is collapsed. (Document 01's domain, which implies it, is `Domain` of crate original.) Definitions only.
 use Prim.Native.Nat.{ℕ, suc}
 use mathlib.Core.Path.{_≡_}
 use mathlib.Core.Bool.{true, false}
@@ -31,11 +31,6 @@ abbrev pub Spared : Sheet → Mesh → Type 0
 Spared f m = (a b c d : ℕ) → List·Memᴰ (deciding a b) (originals f m) → Four (m .pair .tris) a b c d → ⊥
 
 -- and so in each of n rounds of the original's
-pub data Domain (f : Sheet) : ℕ → Mesh → Type 0 where
-  begun : {m : Mesh} → Domain f 0 m
-  further : {n : ℕ} {m : Mesh} → Spared f m → Domain f n (round false f m .mesh) → Domain f (suc n) m
-
--- as document 01 has it: no round of the original's begins with such a piece. This alone is enough (proofs/Domain: no-four-domain).
-pub data NoFour (f : Sheet) : ℕ → Mesh → Type 0 where
-  none-met : {m : Mesh} → NoFour f 0 m
-  none-further : {n : ℕ} {m : Mesh} → ((a b c d : ℕ) → Four (m .pair .tris) a b c d → ⊥) → NoFour f n (round false f m .mesh) → NoFour f (suc n) m
+pub data SparedRounds (f : Sheet) : ℕ → Mesh → Type 0 where
+  begun : {m : Mesh} → SparedRounds f 0 m
+  further : {n : ℕ} {m : Mesh} → Spared f m → SparedRounds f n (round false f m .mesh) → SparedRounds f (suc n) m
