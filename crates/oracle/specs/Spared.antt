@@ -26,7 +26,7 @@ pub record Four (ts : List Tri) (a b c d : ℕ) : Type 0 where
 abbrev pub originals : Sheet → Mesh → List Decision
 originals f m = let s = seen f (m .points) in collapses false s (m .pair) (collapseStart (m .pair)) (candidates s (m .pair) (count m))
 
--- The original collapses no side of a piece of just four corners with which the round begins. (A piece to which the round has come by its collapses has touched corners only: no side of it is collapsed.)
+-- The original collapses no side of a piece of just four corners with which the round begins. (It collapses no side of any other: one to which the round has come by its collapses has a touched corner on every side; `begins-within` of crate original.)
 abbrev pub Spared : Sheet → Mesh → Type 0
 Spared f m = (a b c d : ℕ) → List·Memᴰ (deciding a b) (originals f m) → Four (m .pair .tris) a b c d → ⊥
 

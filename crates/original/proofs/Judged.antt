@@ -99,7 +99,8 @@ module _ (f : Sheet) (m : Mesh) (c : Closed (m .pair .tris)) (j : Judged m) wher
 
 -- ---- rounds
 
-abbrev onto : Result → Result → Result
+-- a round, and what comes after it
+abbrev pub onto : Result → Result → Result
 onto r s = record { mesh = s .mesh; flips = r .flips + s .flips }
 
 abbrev ending : Sheet → ℕ → Result → Outcome Result

@@ -1,6 +1,6 @@
 -- `collapse_slivers` up to its `retain`s: on every closed list its loop over the candidates is the collapse pass of crate oracle without the skip, within the domain and outside.
 use Prim.Native.Nat.{ℕ, zero, suc, _<_}
-use mathlib.Core.Path.{_≡_, refl, sym, _∙_, ap}
+use mathlib.Core.Path.{_≡_, refl, sym, _∙_, ap, subst}
 use mathlib.Core.Bool.{Bool, true, false, not, _&&_, _||_, cond}
 use mathlib.Core.List.{List, [], _∷_}
 use native.Mathlib.Omega.{arith}
@@ -139,17 +139,29 @@ module _ (s : Scene) (p : Pair) (c : Closed (p .tris)) (l : length (p .labels) �
       fits
       (λ x f. let m = or-none (st .touched x) (near (p .tris) a x || near (p .tris) b x) f in let n = or-none (near (p .tris) a x) (near (p .tris) b x) (m .1) in (m .0, n .1))
 
+  holds-after : (st : State) → Holds s p c l few st → (m : Decision) → Holds s p c l few (after st m)
+  holds-after st fits m = pick (accepts false s p st m) refl
+    where
+      pick : (k : Bool) → accepts false s p st m ≡ k → Holds s p c l few (after st m)
+      pick true e = rw e (holds-next st fits (m .keep) (m .remove) e)
+      pick false e = rw e fits
+
   pub pass-is : (ds : List Side) → Upward ds → (st : State) → Holds s p c l few st → text.pass s p st ds ≡ pass false s p st ds
   unfolding text.pass pass every
   pass-is [] u st fits = refl
   pass-is (d ∷ ds) u st fits =
       let w = both (ltb (d .one) (d .two)) _ u in
       ap (λ (t : State). text.pass s p t ds) (step-is st fits (d .one) (d .two) (ltb-true (d .one) (d .two) (w .0)))
-      ∙ pass-is ds (w .1) (after st (better s p d)) (next (better s p d) (accepts false s p st (better s p d)) refl)
-    where
-      next : (m : Decision) (k : Bool) → accepts false s p st m ≡ k → Holds s p c l few (after st m)
-      next m true e = rw e (holds-next st fits (m .keep) (m .remove) e)
-      next m false e = rw e fits
+      ∙ pass-is ds (w .1) (after st (better s p d)) (holds-after st fits (better s p d))
+
+  -- and at every state on the way what is untouched is as it was
+  pub pass-holds : (ds : List Side) → Upward ds → (st : State) → Holds s p c l few st → Holds s p c l few (text.pass s p st ds)
+  unfolding text.pass every
+  pass-holds [] u st fits = fits
+  pass-holds (d ∷ ds) u st fits =
+      let w = both (ltb (d .one) (d .two)) _ u in
+      pass-holds ds (w .1) (text.step s p st d)
+      (subst (λ (t : State). Holds s p c l few t) (sym (step-is st fits (d .one) (d .two) (ltb-true (d .one) (d .two) (w .0)))) (holds-after st fits (better s p d)))
 
   -- from the first candidate to the last
   pub collapse-pass : (ds : List Side) → Upward ds → text.pass s p (collapseStart p) ds ≡ pass false s p (collapseStart p) ds
