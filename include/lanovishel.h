@@ -40,7 +40,7 @@ uint32_t lanovishel_edit(const double *points, size_t point_values,
                          const uint32_t *entries, size_t entry_words,
                          uint32_t *verdicts, size_t verdict_words,
                          uint32_t *journal, size_t journal_words,
-                         uint32_t answer[2], uint32_t place[2]);
+                         uint64_t answer[2], uint32_t place[2]);
 
 /* Improves a surface by rounds, at most 1,000: short sides of badly shaped triangles are collapsed, the points
  * numbered anew by first use, and sides flipped where that helps. The field sheet: up to 64 terms, each a

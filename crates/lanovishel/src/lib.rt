@@ -231,14 +231,14 @@ pub extern "C" fn lanovishel_edit(
     entries: &[u32],
     verdicts: &mut [u32],
     journal: &mut [u32],
-    answer: &mut [u32; 2],
+    answer: &mut [u64; 2],
     place: &mut [u32; 2],
 ) -> u32
     ensures { λ r. ⌜ EditCall (now (points .entry)) (now (corners .entry)) (now (labels .entry)) (now (work .entry)) (now (entries .entry)) (now (verdicts .entry)) (now (journal .entry)) (now (corners .exit)) (now (labels .exit)) (now (work .exit)) (now (verdicts .exit)) (now (journal .exit)) (now (answer .exit)) (now (place .exit)) r ⌝ }
 {
     match editing::edit(points, corners, labels, work, entries, verdicts, journal) {
         Outcome::Edited(triangles, edits) => {
-            *answer = [low_word(triangles), low_word(edits)];
+            *answer = [triangles as u64, edits as u64];
             *place = [0, 0];
             0
         }

@@ -28,7 +28,7 @@ fn left_so(
     labels: &[u8],
     verdicts: &[u32],
     journal: &[u32],
-    answer: &[u32; 2],
+    answer: &[u64; 2],
 ) -> bool
     requires { ⌜ k + 6 + length (now corners) + length (now labels) + length (now verdicts) + length (now journal) ≤ countOf (now text) ⌝ }
 {
@@ -48,10 +48,10 @@ fn left_so(
         return false;
     }
     let d = c + 1 + journal.len();
-    if answer[0] != vectors::word(text, d) {
+    if answer[0] != vectors::word(text, d) as u64 {
         return false;
     }
-    answer[1] == vectors::word(text, d + 1)
+    answer[1] == vectors::word(text, d + 1) as u64
 }
 
 // Whether a call that was answered by the number ends as the words from k on say, and leaves the work
@@ -66,7 +66,7 @@ fn ends_so(
     work: &[u32],
     verdicts: &[u32],
     journal: &[u32],
-    answer: &[u32; 2],
+    answer: &[u64; 2],
     place: &[u32; 2],
 ) -> bool
     requires { ⌜ (k + 9 + length (now corners) + length (now labels) + length (now verdicts) + length (now journal) ≤ countOf (now text)) × (length (now points) ≤ 96) × (length (now corners) ≤ 96) ⌝ }
@@ -101,7 +101,7 @@ fn agrees(
 ) -> bool
     requires { ⌜ (k + 9 + length (now corners) + length (now labels) + length (now verdicts) + length (now journal) ≤ countOf (now text)) × (length (now points) ≤ 96) × (length (now corners) ≤ 96) ⌝ }
 {
-    let mut answer = [7u32, 8u32];
+    let mut answer = [7u64, 8u64];
     let mut place = [10u32, 11u32];
     let number = lanovishel::lanovishel_edit(
         points,

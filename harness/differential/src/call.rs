@@ -73,7 +73,9 @@ pub struct Call {
     pub numbers: [f64; 2],
     /// The price.
     pub cents: [u64; 1],
-    /// What is left, and how many.
+    /// Triangles that an edit run leaves, and its edits in force.
+    pub edited: [u64; 2],
+    /// Points and triangles that rounds of improving leave, and their flips.
     pub answer: [u32; 3],
     /// Where the surface is open.
     pub place: [u32; 2],
@@ -94,6 +96,7 @@ impl Call {
             filled: [17, 18, 19],
             cut_filled: [20, 21, 22, 23],
             fields: [24],
+            edited: [(25 << 32) + 26, (27 << 32) + 28],
             answer: [7, 8, 9],
             place: [10, 11],
             ..Self::default()
@@ -150,6 +153,7 @@ impl Call {
         same("length", &self.length, &wanted.length)?;
         same("numbers", &self.numbers, &wanted.numbers)?;
         same("cents", &self.cents, &wanted.cents)?;
+        same("edited", &self.edited, &wanted.edited)?;
         same("answer", &self.answer, &wanted.answer)
     }
 }

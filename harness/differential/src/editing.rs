@@ -15,7 +15,7 @@ pub fn model(before: &Call) -> Call {
     let mut after = before.clone();
     let asked = questions(before);
     after.end(asked);
-    after.answer[..2].fill(0);
+    after.edited = [0; 2];
     if asked.is_err() {
         return after;
     }
@@ -26,7 +26,7 @@ pub fn model(before: &Call) -> Call {
     set_then_0(&mut after.surface.corners, &last.triangles.concat());
     set_then_0(&mut after.surface.labels, &last.labels);
     set_then_0(&mut after.journal, &history.records().concat());
-    after.answer[..2].copy_from_slice(&[last.triangles.len() as u32, history.in_force() as u32]);
+    after.edited = [last.triangles.len(), history.in_force()].map(|n| n as u64);
     after
 }
 
@@ -56,7 +56,7 @@ pub fn ours(before: &Call) -> Call {
         corners,
         labels,
     } = &mut after.surface;
-    // SAFETY: the lists are whole vectors, apart from one another, and the answer has two places.
+    // SAFETY: the lists are whole vectors, apart from one another.
     after.number = unsafe {
         raw::lanovishel_edit(
             points.as_ptr(),
@@ -73,7 +73,7 @@ pub fn ours(before: &Call) -> Call {
             after.verdicts.len(),
             after.journal.as_mut_ptr(),
             after.journal.len(),
-            after.answer.as_mut_ptr().cast(),
+            &mut after.edited,
             &mut after.place,
         )
     };

@@ -39,7 +39,7 @@ pub const EDIT: Format = Format {
         words.list(&mut call.surface.labels, Words::byte);
         words.list(&mut call.verdicts, Words::word);
         words.list(&mut call.journal, Words::word);
-        call.answer[..2].iter_mut().for_each(|x| words.word(x));
+        call.edited.iter_mut().for_each(|x| words.count(x));
     },
 };
 
@@ -75,6 +75,16 @@ impl Words<'_> {
             Self::Writing(words) => words.push(*x),
             Self::Reading(words) => (*x, *words) = (words[0], &words[1..]),
         }
+    }
+
+    /// A count that one word holds.
+    fn count(&mut self, x: &mut u64) {
+        let mut word = 0;
+        if let Self::Writing(_) = self {
+            word = u32::try_from(*x).expect("a count of less than 2^32");
+        }
+        self.word(&mut word);
+        *x = word.into();
     }
 
     fn byte(&mut self, x: &mut u8) {

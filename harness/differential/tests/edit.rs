@@ -116,6 +116,26 @@ fn takings_back() {
     );
 }
 
+/// Both counts, each by itself: a flip is an edit and leaves all eight triangles, a collapse takes two.
+#[test]
+fn counts() {
+    for (entries, triangles, in_force) in [
+        (&[][..], 8, 0),
+        (&[[1, 0, 2]], 8, 1),
+        (&[[2, 0, 2]], 6, 1),
+        (&[[2, 0, 2], [2, 4, 0]], 4, 2),
+        (&[[1, 0, 2], [1, 4, 5], [1, 0, 2]], 8, 3),
+        (&[[2, 0, 2], [2, 4, 0], [3, 1, 0]], 6, 1),
+        (&[[2, 0, 2], [3, 1, 0]], 8, 0),
+    ] {
+        let wanted = Edited {
+            triangles,
+            in_force,
+        };
+        assert_eq!(edit(&mut octahedron(), entries, 120).0, Ok(wanted));
+    }
+}
+
 #[test]
 fn a_full_journal() {
     assert_eq!(edit(&mut octahedron(), &[[1, 0, 2]], 11).1, [27]);

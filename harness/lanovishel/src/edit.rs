@@ -5,9 +5,9 @@ use crate::{Refusal, raw};
 #[derive(Clone, Copy, Debug, PartialEq, Eq)]
 pub struct Edited {
     /// How many triangles are left; the lists are 0 behind them.
-    pub triangles: u32,
+    pub triangles: u64,
     /// How many edits are in force, each with 12 words in the journal.
-    pub in_force: u32,
+    pub in_force: u64,
 }
 
 /// Runs the entries in order. The surface stays closed, whatever they are.

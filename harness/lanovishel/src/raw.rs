@@ -37,7 +37,7 @@ unsafe extern "C" {
         verdict_words: usize,
         journal: *mut u32,
         journal_words: usize,
-        answer: *mut [u32; 2],
+        answer: *mut [u64; 2],
         place: *mut [u32; 2],
     ) -> u32;
 

@@ -1,5 +1,5 @@
 -- `lanovishel::lanovishel_edit` meets its contract: it hands on what `edit` answers. Assumes nothing.
-use Prim.Native.Nat.{ℕ, _%_, _^_}
+use Prim.Native.Nat.{ℕ}
 use mathlib.Core.Path.{_≡_, refl, sym, ap, ap₂, _∙_}
 use mathlib.Core.List.{List, [], _∷_}
 use lib.Ieee.{Float}
@@ -12,13 +12,13 @@ use Rattle.lanovishel.proofs.lanovishel_edit.Tie as tie
 
 handed : {points : List Float} {corners₀ labels₀ work₀ entries verdicts₀ journal₀ corners₁ labels₁ work₁ verdicts₁ journal₁ : List ℕ} {r : Outcome}
     → EditRun points corners₀ labels₀ work₀ entries verdicts₀ journal₀ corners₁ labels₁ work₁ verdicts₁ journal₁ r → (v : Outcome) → r ≡ v
-    → (x y : ℕ) → x ≡ trianglesOf v % 2 ^ 32 → y ≡ editsOf v % 2 ^ 32 → {place : List ℕ} {number : ℕ} → place ≡ placeOf v → number ≡ numberOf v
+    → (x y : ℕ) → x ≡ trianglesOf v → y ≡ editsOf v → {place : List ℕ} {number : ℕ} → place ≡ placeOf v → number ≡ numberOf v
     → EditCall points corners₀ labels₀ work₀ entries verdicts₀ journal₀ corners₁ labels₁ work₁ verdicts₁ journal₁ (x ∷ y ∷ []) place number
 handed {r = r} d v e x y p q l n = record {
   outcome = r;
   run = d;
   is = n ∙ ap numberOf (sym e);
-  answer = ap₂ (λ (m n : ℕ). m ∷ n ∷ []) (p ∙ ap (λ (o : Outcome). trianglesOf o % 2 ^ 32) (sym e)) (q ∙ ap (λ (o : Outcome). editsOf o % 2 ^ 32) (sym e));
+  answer = ap₂ (λ (m n : ℕ). m ∷ n ∷ []) (p ∙ ap trianglesOf (sym e)) (q ∙ ap editsOf (sym e));
   place = l ∙ ap placeOf (sym e);
 }
 
@@ -27,12 +27,6 @@ edit-requires c κs = search needs
 
 enum-known-triangles : tie.Need-enum-known-triangles
 enum-known-triangles c = search needs
-
-low-word-requires : tie.Need-low-word-requires
-low-word-requires c κs = search needs
-
-low-word-requires-2 : tie.Need-low-word-requires-2
-low-word-requires-2 c κs = search needs
 
 enum-known-why : tie.Need-enum-known-why
 enum-known-why c = search needs
@@ -60,11 +54,9 @@ same-length-5 c = search needs
 
 returns : tie.Need-returns
 returns c =
-    let w = c .before .before in
-    let v = w .before in
-    let t = v .before .before in
+    let t = c .before .before .before in
     let e = t .before .before .before .before .before .before .before .before .before .before .before .before in
-    handed (e .edit .ensures) _ (t .triangles .given .1) _ _ (v .low-word .ensures) (w .low-word2 .ensures) refl refl
+    handed (e .edit .ensures) _ (t .triangles .given .1) _ _ refl refl refl refl
 
 same-length-6 : tie.Need-same-length-6
 same-length-6 c = search needs
@@ -94,8 +86,6 @@ lanovishel-edit-spec =
     (tie.spec
     edit-requires
     enum-known-triangles
-    low-word-requires
-    low-word-requires-2
     enum-known-why
     place-requires
     number-requires
