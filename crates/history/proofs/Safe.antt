@@ -9,6 +9,7 @@ use lib.Dec.{eqb}
 use lib.ListN.{length, getD, take}
 use borrow.Author.Tests.{eqb-true}
 use Rattle.surface.specs.Closed.{Closed}
+use Rattle.surface.proofs.Formula.{same-euler}
 use Rattle.history.specs.History.{Pair, Entry, isEdit, made, History, last, accepted, begun, next, after, verdict, verdicts}
 use Rattle.history.specs.Safe.{Sound, NoneGained, reached, entryAt, wordAt, Safe}
 use Rattle.history.proofs.Verdict.{Edit, Outcome, edited, returned, refused, outcome}
@@ -80,7 +81,8 @@ safe c start s es n =
     record {
       closed = k .sound .closed;
       labelled = k .sound .labelled;
-      euler = k .euler;
+      below = k .below;
+      euler = λ m b. same-euler m (start .tris) (last h .tris) (k .euler m b);
       labels = k .labels;
       gained = λ l i. subst (λ (g : History). NoneGained (last h) (last g)) (sym (after-next c (begun start) es n l)) (none-gained c h e (k .sound) (edit-kind e i));
       only-25 = λ l i x a. subst (λ (w : ℕ). (w ≡ 25) ↔ (Closed (made (last h) e .tris) → ⊥)) (sym (verdict-at c (begun start) es n l)) (not-closed-25 c h e (edit-kind e i) x a);

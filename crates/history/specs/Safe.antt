@@ -6,7 +6,7 @@ use mathlib.Core.Bool.{Bool, true, cond}
 use mathlib.Core.List.{List, [], _∷_}
 use lib.ListN.{length, getD, take}
 use Rattle.surface.specs.Closed.{Closed}
-use Rattle.surface.specs.Euler.{Below, SameEuler}
+use Rattle.surface.specs.Euler.{euler, Below}
 use Rattle.surface.specs.Label.{carries}
 use Rattle.history.specs.History.{Pair, Entry, isFlip, isEdit, covered, alike, exists, made, History, last, inForce, begun, after, verdicts}
 
@@ -40,8 +40,9 @@ pub record Safe (capacity : ℕ) (start : Pair) (es : List Entry) (n : ℕ) : Ty
   -- the triangles are closed, (a) to (d), with a label each
   pub closed : Closed (last (reached capacity start es n) .tris)
   pub labelled : length (last (reached capacity start es n) .labels) ≡ length (last (reached capacity start es n) .tris)
-  -- corners in use, less sides, plus triangles, is the number at the start (corners below k)
-  pub euler : (k : ℕ) → Below k (start .tris) → SameEuler k (start .tris) (last (reached capacity start es n) .tris)
+  -- corners in use, less sides, plus triangles, is the number at the start. (Corners are counted below k, where every corner in use at the start is below k: then every one in use now is, too. Which k does not matter: `any-bound` of `surface/specs/Laws`.)
+  pub below : (k : ℕ) → Below k (start .tris) → Below k (last (reached capacity start es n) .tris)
+  pub euler : (k : ℕ) → Below k (start .tris) → euler k (last (reached capacity start es n) .tris) ≡ euler k (start .tris)
   -- no corner carries a label that it lacked at the start; and no flip or collapse gives a corner a label that it lacked before it
   pub labels : NoneGained start (last (reached capacity start es n))
   pub gained : n < length es → isEdit (entryAt es n) ≡ true → NoneGained (last (reached capacity start es n)) (last (reached capacity start es (suc n)))

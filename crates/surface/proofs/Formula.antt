@@ -1,6 +1,6 @@
--- Euler's number is unchanged by a flip or a collapse whose result is closed.
-use Prim.Native.Nat.{ℕ, zero, suc, _+_, _*_, _<_}
-use mathlib.Core.Path.{_≡_, refl, sym, _∙_, ap}
+-- Euler's number is unchanged by a flip or a collapse whose result is closed, and the same for every bound on the corners.
+use Prim.Native.Nat.{ℕ, zero, suc, _+_, _*_, _≤_, _<_}
+use mathlib.Core.Path.{_≡_, refl, sym, _∙_, ap, ap₂}
 use mathlib.Core.Logic.{_↔_}
 use mathlib.Core.List.{List, [], _∷_}
 use native.Mathlib.Omega.{arith}
@@ -17,7 +17,7 @@ use Rattle.surface.proofs.Places.{length-without}
 use Rattle.surface.proofs.Hinged.{hinged}
 use Rattle.surface.proofs.Bridge.{in-use}
 use Rattle.surface.proofs.Euler.{use-has, flip-keeps, collapse-keeps}
-use Rattle.surface.proofs.Sums.{sum-cong, sum-zero, square, square-add, square-cong, square-hit, square-half, sum-drop}
+use Rattle.surface.proofs.Sums.{sum-cong, sum-zero, sum-beyond, square, square-add, square-cong, square-hit, square-half, sum-drop}
 
 sign-pos : (n : ℕ) → 0 < n → sign n ≡ 1
 sign-pos zero p = absurd (omega arith)
@@ -149,3 +149,33 @@ same-euler n ts us e =
   where
     whole : (xs : List Tri) → euler n xs ≡ pos (used n xs + length xs) -ℤ pos (edges n xs)
     whole xs = last-two (pos (used n xs)) (negℤ (pos (edges n xs))) (pos (length xs)) ∙ ap (λ (x : ℤ). x -ℤ pos (edges n xs)) (pos-+ℤ-pos (used n xs) (length xs))
+
+-- ---- any bound
+
+module _ (ts : List Tri) (m : ℕ) (below : Below m ts) where
+  unused-beyond : (v : ℕ) → m ≤ v → InUse ts v → ⊥
+  unused-beyond v l u = omega (arith, below v u)
+
+  no-side-beyond : (u v : ℕ) → m ≤ v → sign (sides ts u v + sides ts v u) ≡ 0
+  no-side-beyond u v l = sign-none (sides ts u v + sides ts v u) (pick (decLt 0 (sides ts u v)))
+    where
+      pick : Dec (0 < sides ts u v) → 0 < sides ts u v + sides ts v u → ⊥
+      pick (yes q) p = let h = side-has ts u v q in unused-beyond v l (in-use (spin (h .1)))
+      pick (no k) p = let h = side-has ts v u (omega arith) in unused-beyond v l (in-use (h .1))
+
+  used-beyond : (n : ℕ) → m ≤ n → used n ts ≡ used m ts
+  used-beyond n = sum-beyond m n (λ v. sign (length (around ts v))) (λ v l. sign-none (length (around ts v)) (unused-beyond v l))
+
+  edges-beyond : (n : ℕ) → m ≤ n → edges n ts ≡ edges m ts
+  edges-beyond n = sum-beyond m n (λ v. sum v (λ u. sign (sides ts u v + sides ts v u)))
+      (λ v l. sum-cong v (λ u. sign (sides ts u v + sides ts v u)) (λ u. 0) (λ u k. no-side-beyond u v l) ∙ sum-zero v)
+
+  euler-beyond : (n : ℕ) → m ≤ n → euler n ts ≡ euler m ts
+  euler-beyond n l = ap₂ (λ (x y : ℕ). pos x -ℤ pos y +ℤ pos (length ts)) (used-beyond n l) (edges-beyond n l)
+
+pub any-bound : (ts : List Tri) (m n : ℕ) → Below m ts → Below n ts → euler m ts ≡ euler n ts
+any-bound ts m n b c = pick (decLt m n)
+  where
+    pick : Dec (m < n) → euler m ts ≡ euler n ts
+    pick (yes l) = sym (euler-beyond ts m b n (omega arith))
+    pick (no k) = euler-beyond ts n c m (omega arith)

@@ -20,7 +20,7 @@ use Rattle.surface.proofs.Bridge.{closed-surface, surface-closed, named
 use Rattle.surface.proofs.Edits as Read
 use Rattle.surface.proofs.Edits.{one-way, other-way, Linked, hinge-six, flip-law, collapse-law}
 use Rattle.surface.proofs.Euler.{flip-keeps, collapse-keeps}
-use Rattle.surface.proofs.Formula.{edges-count, flip-euler, collapse-euler, same-euler}
+use Rattle.surface.proofs.Formula.{edges-count, flip-euler, collapse-euler, same-euler, any-bound}
 use Rattle.surface.proofs.Labels.{flip-no-new, collapse-no-new}
 use Rattle.surface.proofs.Valence.{distinct-iff}
 
@@ -208,5 +208,6 @@ pub laws : Laws
 laws = record {
   side = λ ts c a b s. side-laws c a b (is-side c a b s);
   three-halves = λ ts c. closed-edges c;
+  any-bound = any-bound;
   corner-of-two = λ ts. distinct-iff;
 }

@@ -1,5 +1,5 @@
 -- The numbers of Euler's formula: the corners in use, the sides and the triangles, and the number that they make. Definitions only.
--- Corners are counted below a bound n that is above each of them; which one does not matter.
+-- Corners are counted below a bound n that is above each of them; which one does not matter (`any-bound` of `Laws`).
 use Prim.Native.Nat.{ℕ, zero, suc, _+_, _<_}
 use mathlib.Core.Path.{_≡_}
 use mathlib.Core.List.{List}

@@ -65,5 +65,7 @@ pub record Laws : Type 0 where
   pub side : (ts : List Tri) → Closed ts → (a b : ℕ) → IsSide ts a b → SideLaws ts a b
   -- sides are three halves of the triangles
   pub three-halves : (ts : List Tri) → Closed ts → (n : ℕ) → Below n ts → 2 * edges n ts ≡ 3 * length ts
+  -- which bound above the corners in use is taken for Euler's number does not matter
+  pub any-bound : (ts : List Tri) (m n : ℕ) → Below m ts → Below n ts → euler m ts ≡ euler n ts
   -- given (a) to (c), rule (d) fails exactly at a corner of two triangles
   pub corner-of-two : (ts : List Tri) → Differing ts → Paired ts → Ringed ts → Distinct ts ↔ ((v : ℕ) → length (around ts v) ≡ 2 → ⊥)
