@@ -29,7 +29,7 @@ pub enum Written {
 }
 
 // One byte.
-fn put(b: u8, at: usize, written: &mut [u8]) -> usize
+pub fn put(b: u8, at: usize, written: &mut [u8]) -> usize
     requires { ⌜ at < 2 ^ 32 ⌝ }
     ensures { λ r. ⌜ Put (b ∷ []) 1 (now (written .entry)) (now (written .exit)) at r ⌝ }
 {
@@ -40,7 +40,7 @@ fn put(b: u8, at: usize, written: &mut [u8]) -> usize
     at + 1
 }
 
-fn word(w: &[u8], at: usize, written: &mut [u8]) -> usize
+pub fn word(w: &[u8], at: usize, written: &mut [u8]) -> usize
     requires { ⌜ (at < 2 ^ 31) × (length (now w) < 2 ^ 31) ⌝ }
     ensures { λ r. ⌜ Put (now (w .entry)) (length (now (w .entry))) (now (written .entry)) (now (written .exit)) at r ⌝ }
 {
@@ -72,7 +72,7 @@ fn decimal(v: u32, at: usize, written: &mut [u8]) -> usize
 }
 
 // A number and the byte that ends it.
-fn field(v: u32, end: u8, at: usize, written: &mut [u8]) -> usize
+pub fn field(v: u32, end: u8, at: usize, written: &mut [u8]) -> usize
     requires { ⌜ at < 2 ^ 31 ⌝ }
     ensures { λ r. ⌜ Put (ended (Text.decimal v) end) 11 (now (written .entry)) (now (written .exit)) at r ⌝ }
 {
