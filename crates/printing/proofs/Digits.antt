@@ -32,29 +32,33 @@ module _ (v k : ℕ) where
 
 -- ---- in a row
 
--- all digits are written but the last k
-pub record Row (v k : ℕ) (l l′ : List ℕ) (at next : ℕ) : Type 0 where
+-- the first i digits are written
+pub record Row (v i : ℕ) (l l′ : List ℕ) (at next : ℕ) : Type 0 where
   pub front : List ℕ
-  pub whole : front ++ hexadecimal k v ≡ hexadecimal 16 v
-  pub left : k ≤ 16
-  pub put : Put front (16 - k) l l′ at next
+  pub whole : front ++ hexadecimal (16 - i) v ≡ hexadecimal 16 v
+  pub few : i ≤ 16
+  pub put : Put front i l l′ at next
 
-pub row-start : (v : ℕ) (l : List ℕ) (at : ℕ) → Row v 16 l l at at
-row-start v l at = record { front = []; whole = refl; left = omega arith; put = put-nothing l at }
+pub row-start : (v : ℕ) (l : List ℕ) (at : ℕ) → Row v 0 l l at at
+row-start v l at = record { front = []; whole = refl; few = omega arith; put = put-nothing l at }
 
-pub row-more : {v b : ℕ} {l l₁ l₂ : List ℕ} {at i next : ℕ} (k j : ℕ) → k ≡ suc j → b ≡ hexDigit (v / 16 ^ j % 16) → Row v k l l₁ at i → Put (b ∷ []) 1 l₁ l₂ i next → Row v j l l₂ at next
-row-more {v} {b} k j e h r p =
-    let n = r .left in
+pub row-more : {v b i : ℕ} {l l₁ l₂ : List ℕ} {at next next′ : ℕ} (k : ℕ) → i < 16 → k ≡ 15 - i → b ≡ hexDigit (v / 16 ^ k % 16) → Row v i l l₁ at next → Put (b ∷ []) 1 l₁ l₂ next next′ → Row v (i + 1) l l₂ at next′
+row-more {v} {b} {i} k h e d r p =
+    let now : 16 - i ≡ suc k = omega arith in
+    let then : 16 - (i + 1) ≡ k = omega arith in
     record {
       front = r .front ++ (b ∷ []);
       whole =
-          append-assoc (r .front) (b ∷ []) (hexadecimal j v)
-          ∙ ap (λ (d : ℕ). r .front ++ (d ∷ hexadecimal j v)) h
-          ∙ ap (λ (m : ℕ). r .front ++ hexadecimal m v) (sym e)
+          append-assoc (r .front) (b ∷ []) (hexadecimal (16 - (i + 1)) v)
+          ∙ ap (λ (m : ℕ). r .front ++ (b ∷ hexadecimal m v)) then
+          ∙ ap (λ (c : ℕ). r .front ++ (c ∷ hexadecimal k v)) d
+          ∙ ap (λ (m : ℕ). r .front ++ hexadecimal m v) (sym now)
           ∙ r .whole;
-      left = omega arith;
-      put = said-as (r .front ++ (b ∷ [])) (16 - j) refl (omega arith) (both (r .put) p);
+      few = omega arith;
+      put = both (r .put) p;
     }
 
-pub row-end : {v : ℕ} {l l′ : List ℕ} {at next : ℕ} (k : ℕ) → k ≡ 0 → Row v k l l′ at next → Put (hexadecimal 16 v) 16 l l′ at next
-row-end {v} k e r = said-as (hexadecimal 16 v) 16 (sym (append-nil (r .front)) ∙ ap (λ (m : ℕ). r .front ++ hexadecimal m v) (sym e) ∙ r .whole) (omega arith) (r .put)
+pub row-end : {v : ℕ} {l l′ : List ℕ} {at next : ℕ} (i : ℕ) → 16 ≤ i → Row v i l l′ at next → Put (hexadecimal 16 v) 16 l l′ at next
+row-end {v} i h r =
+    let none : 16 - i ≡ 0 = omega arith in
+    said-as (hexadecimal 16 v) 16 (sym (append-nil (r .front)) ∙ ap (λ (m : ℕ). r .front ++ hexadecimal m v) (sym none) ∙ r .whole) (r .few) (r .put)

@@ -10,7 +10,6 @@ use lib.Seq.{take-all, take-at, length-take-le}
 use lib.Ieee.{Float, isNan}
 use lib.Ieee.Bits.{is-false}
 use Rattle.checking.specs.Verdict.{numberOf, qualityOf, volumeOf}
-use Rattle.checking.specs.declared.Verdict.{Verdict}
 use Rattle.checking.specs.declared.Verdict.the-variants.{Accepted}
 use Rattle.sheet.specs.Text.{decimal, line}
 use Rattle.sheet.specs.Edition.{edition, IsEdition}
@@ -23,20 +22,20 @@ use Rattle.sheet.proofs.Texts.{digits-long}
 use Rattle.sheet.proofs.InUnit.{unit-some, unit-small, most-small}
 use Rattle.sheet.proofs.Contents.{contents-laws, longest-text}
 use Rattle.sheet.proofs.Conversion.{conversion-keeps}
-use Rattle.printing.specs.Printed.{nameLine, floatDigits, valueLine, verdictOf, verdictOn, printedText, onto, Prints}
+use Rattle.printing.specs.Printed.{floatDigits, printedLines, printedVerdict, verdictOf, verdictOn, printedText, onto, Prints}
 use Rattle.printing.specs.Laws.{PrintingLaws}
 use Rattle.printing.proofs.Verdicts.{Values, enough, text-values, text-few}
 
 -- ---- its length
 
-line-short : (v : Verdict) → numberOf v < 100 → length (valueLine v) ≤ 37
-line-short v h =
-    let d = digits-long 1 (numberOf v) h in
-    omega (arith, length-append (decimal (numberOf v)) (32 ∷ line (floatDigits (qualityOf v) ∷ floatDigits (volumeOf v) ∷ [])))
+lines-short : (number : ℕ) (quality volume : Float) → number < 100 → length (printedLines number quality volume) ≤ 60
+lines-short number quality volume h =
+    let d = digits-long 1 number h in
+    omega (arith, length-append (decimal number) (32 ∷ line (floatDigits quality ∷ floatDigits volume ∷ [])))
 
 short : (input : List ℕ) → length (printedText input) ≤ 60
 unfolding printedText
-short input = omega (arith, line-short (verdictOn (contents input)) (text-few (contents input)))
+short input = let v = verdictOn (contents input) in lines-short (numberOf v) (qualityOf v) (volumeOf v) (text-few (contents input))
 
 whole : (input : List ℕ) (long : ℕ) → 60 ≤ long → onto long (printedText input) ≡ printedText input ++ replicate (long - length (printedText input)) 0
 whole input long h =
@@ -68,7 +67,7 @@ same-contents input = go (leb (length input) 12982) (leb→le (length input) 129
 
 of-contents : (a b : List ℕ) → verdictOn (contents a) ≡ verdictOn (contents b) → printedText a ≡ printedText b
 unfolding printedText
-of-contents a b e = ap (λ (v : Verdict). nameLine ++ valueLine v) e
+of-contents a b e = ap printedVerdict e
 
 -- ---- the other edition
 

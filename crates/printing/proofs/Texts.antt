@@ -9,21 +9,22 @@ use lib.Ieee.{Float, binary64, ofBits}
 use Rattle.questions.specs.Refusal.{refusalNumber}
 use Rattle.questions.specs.declared.Refusal.{Refusal}
 use Rattle.quality.proofs.Numbers.{zero-is}
-use Rattle.checking.specs.Verdict.{numberOf, qualityOf, volumeOf}
 use Rattle.checking.specs.declared.Verdict.{Verdict}
 use Rattle.checking.specs.declared.Verdict.the-variants.{Refused}
-use Rattle.sheet.specs.Text.{decimal}
+use Rattle.sheet.specs.Text.{bytes, decimal, line}
 use Rattle.sheet.specs.Stages.{ended}
 use Rattle.sheet.specs.Contents.{contents}
 use Rattle.sheet.proofs.Stores.{drop-same}
 use Rattle.writing.specs.Stages.{Put}
 use Rattle.writing.proofs.Puts.{both, said-as}
-use Rattle.printing.specs.Printed.{nameLine, floatDigits, verdictOn, printedText, onto, Prints}
-use Rattle.printing.specs.Stages.{verdictText}
+use Rattle.printing.specs.Printed.{floatDigits, printedLines, printedVerdict, verdictOn, printedText, onto, Prints}
 
-pub text-put : {l l₁ l₂ l₃ l₄ : List ℕ} {i j k next : ℕ} (number : ℕ) (quality volume : Float) → Put nameLine 23 l l₁ 0 i → Put (ended (decimal number) 32) 11 l₁ l₂ i j → Put (ended (floatDigits quality) 32) 17 l₂ l₃ j k → Put (ended (floatDigits volume) 10) 17 l₃ l₄ k next
-    → Put (verdictText number quality volume) 68 l l₄ 0 next
-text-put number quality volume a b c d = said-as (verdictText number quality volume) 68 (simp append-assoc) (omega arith) (both a (both b (both c d)))
+abbrev pub names : List ℕ
+names = line (bytes "verdict" ∷ bytes "quality" ∷ bytes "volume" ∷ [])
+
+pub text-put : {l l₁ l₂ l₃ l₄ : List ℕ} {i j k next : ℕ} (number : ℕ) (quality volume : Float) → Put names 23 l l₁ 0 i → Put (ended (decimal number) 32) 11 l₁ l₂ i j → Put (ended (floatDigits quality) 32) 17 l₂ l₃ j k → Put (ended (floatDigits volume) 10) 17 l₃ l₄ k next
+    → Put (printedLines number quality volume) 68 l l₄ 0 next
+text-put number quality volume a b c d = said-as (printedLines number quality volume) 68 (simp append-assoc) (omega arith) (both a (both b (both c d)))
 
 -- ---- on a list of zeros
 
@@ -48,18 +49,19 @@ on-zeros n w =
 
 -- ---- the whole
 
-pub prints : (input list zeros list′ : List ℕ) (v : Verdict) {long count : ℕ} → zeros ≡ replicate (length list) 0 → v ≡ verdictOn (contents input) → Put (verdictText (numberOf v) (qualityOf v) (volumeOf v)) long zeros list′ 0 count → Prints input list list′ count
+pub prints : (input list zeros list′ : List ℕ) (v : Verdict) {long count : ℕ} → zeros ≡ replicate (length list) 0 → v ≡ verdictOn (contents input) → Put (printedVerdict v) long zeros list′ 0 count → Prints input list list′ count
 unfolding printedText
-prints input list zeros list′ v z e p =
-    let w : verdictText (numberOf v) (qualityOf v) (volumeOf v) ≡ printedText input = ap (λ (x : Verdict). verdictText (numberOf x) (qualityOf x) (volumeOf x)) e in
+prints input list zeros list′ v {count = count} z e p =
+    let w : printedVerdict v ≡ printedText input = ap printedVerdict e in
     let c = p .place in
+    let n : count ≡ length (printedVerdict v) = omega arith in
     record {
-      counted = (let q : _ ≡ length (verdictText (numberOf v) (qualityOf v) (volumeOf v)) = omega arith in q) ∙ ap length w;
-      written = p .stored ∙ ap (λ (l : List ℕ). sets l 0 (verdictText (numberOf v) (qualityOf v) (volumeOf v))) z ∙ on-zeros (length list) (verdictText (numberOf v) (qualityOf v) (volumeOf v)) ∙ ap (onto (length list)) w;
+      counted = n ∙ ap length w;
+      written = p .stored ∙ ap (λ (l : List ℕ). sets l 0 (printedVerdict v)) z ∙ on-zeros (length list) (printedVerdict v) ∙ ap (onto (length list)) w;
     }
 
-pub prints-refused : (input list zeros list′ : List ℕ) (why : Refusal) {n long count : ℕ} → zeros ≡ replicate (length list) 0 → Refused why ≡ verdictOn (contents input) → n ≡ refusalNumber why → Put (verdictText n (ofBits binary64 0) (ofBits binary64 0)) long zeros list′ 0 count
+pub prints-refused : (input list zeros list′ : List ℕ) (why : Refusal) {n long count : ℕ} → zeros ≡ replicate (length list) 0 → Refused why ≡ verdictOn (contents input) → n ≡ refusalNumber why → Put (printedLines n (ofBits binary64 0) (ofBits binary64 0)) long zeros list′ 0 count
     → Prints input list list′ count
 prints-refused input list zeros list′ why {n} {long} {count} z e h p =
     prints input list zeros list′ (Refused why) z e
-    (subst (λ (w : List ℕ). Put w long zeros list′ 0 count) (λ i. verdictText (h i) (zero-is i) (zero-is i)) p)
+    (subst (λ (w : List ℕ). Put w long zeros list′ 0 count) (λ i. printedLines (h i) (zero-is i) (zero-is i)) p)

@@ -1,4 +1,3 @@
--- The printed check: `Printed` has the whole text that is printed of every input, `Laws` what is proved of it, and `Stages` what the functions of `src/` hand to one another.
+-- The printed check: `Printed` has the whole text that is printed of every input, and `Laws` what is proved of it.
 pub mod Printed
 pub mod Laws
-pub mod Stages

@@ -24,7 +24,7 @@ use Rattle.sheet.specs.Contents.{Contents, contents}
 abbrev pub verdictOf : (points : List Float) (corners labels : List ℕ) → Verdict
 verdictOf points corners labels = validated points corners labels (replicate (needed points corners) 0)
 
--- the verdict on the surface that a sheet says; 16 for what is no sheet
+-- the verdict on the surface that a sheet of either edition says; 16 for what is no sheet
 abbrev pub verdictOn : Contents → Verdict
 verdictOn Contents.nothing = Refused (Question 16)
 verdictOn (Contents.sheet number s) = verdictOf (placesOf (edition number .unit) (s .points)) (cornersOf (s .triangles)) (labelsOf (s .triangles))
@@ -40,26 +40,30 @@ abbrev pub hexadecimal : ℕ → ℕ → List ℕ
 hexadecimal zero v = []
 hexadecimal (suc n) v = hexDigit (v / 16 ^ n % 16) ∷ hexadecimal n v
 
--- the 64 bits of an f64
+-- the 64 bits of an f64 (no value that is printed is a NaN: `numbers` of `Laws`)
 abbrev pub floatDigits : Float → List ℕ
 floatDigits x = hexadecimal 16 (toBits binary64 x)
 
 -- ---- the text
 
-abbrev pub nameLine : List ℕ
-nameLine = line (bytes "verdict" ∷ bytes "quality" ∷ bytes "volume" ∷ [])
+-- the names; then the number in decimal, and the bits of both values
+abbrev pub printedLines : (number : ℕ) (quality volume : Float) → List ℕ
+printedLines number quality volume =
+    line (bytes "verdict" ∷ bytes "quality" ∷ bytes "volume" ∷ [])
+    ++ line (decimal number ∷ floatDigits quality ∷ floatDigits volume ∷ [])
 
--- zeros where the verdict is a refusal
-abbrev pub valueLine : Verdict → List ℕ
-valueLine v = line (decimal (numberOf v) ∷ floatDigits (qualityOf v) ∷ floatDigits (volumeOf v) ∷ [])
+-- both values are 0 after a refusal
+abbrev pub printedVerdict : Verdict → List ℕ
+printedVerdict v = printedLines (numberOf v) (qualityOf v) (volumeOf v)
 
+-- what is printed of an input
 unfoldable pub printedText : List ℕ → List ℕ
 unfolding contents validated decimal toBits
-printedText input = nameLine ++ valueLine (verdictOn (contents input))
+printedText input = printedVerdict (verdictOn (contents input))
 
 -- ---- the list afterwards
 
--- the text and 0 behind it, on a list of `long` places; where that is shorter, as much of the text as it has places for
+-- a list of `long` places with the text at its start and 0 behind it; where there are too few, as much of the text as there is room for
 abbrev pub onto : ℕ → List ℕ → List ℕ
 onto long text = take long (text ++ replicate (long - length text) 0)
 

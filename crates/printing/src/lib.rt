@@ -11,8 +11,7 @@ ghost use Rattle.sheet.specs.Contents.{contents};
 ghost use Rattle.sheet.specs.Stages.{ended};
 ghost use Rattle.writing.specs.Stages.{Put};
 ghost use Rattle.printing.specs.Printed as Printed;
-ghost use Rattle.printing.specs.Printed.{hexDigit, floatDigits, verdictOn, Prints};
-ghost use Rattle.printing.specs.Stages.{verdictText};
+ghost use Rattle.printing.specs.Printed.{hexDigit, floatDigits, printedLines, verdictOn, Prints};
 
 // The digit of 16^k of a number.
 fn digit(v: u64, k: u64) -> u8
@@ -32,15 +31,16 @@ fn hexadecimal(v: u64, at: usize, printed: &mut [u8]) -> usize
     ensures { λ r. ⌜ Put (Printed.hexadecimal 16 v) 16 (now (printed .entry)) (now (printed .exit)) at r ⌝ }
 {
     let mut next = at;
-    let mut k: u64 = 16;
-    while k > 0 {
-        k -= 1;
+    let mut i: u64 = 0;
+    while i < 16 {
+        let k = 15 - i;
         next = writing::put(digit(v, k), next, printed);
+        i += 1;
     }
     next
 }
 
-// The bits of a number and the byte that ends them.
+// The bits of a number, in hexadecimal, and the byte that ends them.
 fn bits(x: f64, end: u8, at: usize, printed: &mut [u8]) -> usize
     requires { ⌜ T (not (isNan x)) × (at < 2 ^ 31) ⌝ }
     ensures { λ r. ⌜ Put (ended (floatDigits x) end) 17 (now (printed .entry)) (now (printed .exit)) at r ⌝ }
@@ -52,7 +52,7 @@ fn bits(x: f64, end: u8, at: usize, printed: &mut [u8]) -> usize
 // The line of names and the line of values.
 fn lines(number: u32, quality: f64, volume: f64, printed: &mut [u8]) -> usize
     requires { ⌜ T (not (isNan quality)) × T (not (isNan volume)) ⌝ }
-    ensures { λ r. ⌜ Put (verdictText number quality volume) 68 (now (printed .entry)) (now (printed .exit)) 0 r ⌝ }
+    ensures { λ r. ⌜ Put (printedLines number quality volume) 68 (now (printed .entry)) (now (printed .exit)) 0 r ⌝ }
 {
     let i = writing::word(b"verdict quality volume\n", 0, printed);
     let j = writing::field(number, 32, i, printed);
@@ -60,9 +60,9 @@ fn lines(number: u32, quality: f64, volume: f64, printed: &mut [u8]) -> usize
     bits(volume, 10, k, printed)
 }
 
-// The verdict on the surface that a text says; 16 where the text is no sheet. The lists are long enough for
-// every sheet.
-pub fn verdict(text: &[u8]) -> Verdict
+// The verdict on the surface that a text says; 16 where the text is no sheet. The lists are long enough
+// for every sheet.
+fn verdict(text: &[u8]) -> Verdict
     ensures { λ r. ⌜ r ≡ verdictOn (contents (now (text .entry))) ⌝ }
 {
     let mut points = [0.0f64; 384];
@@ -76,7 +76,8 @@ pub fn verdict(text: &[u8]) -> Verdict
     checking::validate(&points[..n * 3], &corners[..m * 3], &labels[..m], &mut work)
 }
 
-// Prints the check of a text, and answers how long it is. Zeros follow it.
+// Puts the printed check of a text at the start of the list, with zeros behind it, and answers how long it
+// is. There are at most 60 bytes; a shorter list gets the first of them.
 pub fn print(text: &[u8], printed: &mut [u8]) -> usize
     ensures { λ r. ⌜ Prints (now (text .entry)) (now (printed .entry)) (now (printed .exit)) r ⌝ }
 {
