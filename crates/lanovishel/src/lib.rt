@@ -14,8 +14,8 @@ ghost use mathlib.Core.List.{[], _∷_};
 ghost use Prim.Native.Nat.{_%_, _^_};
 ghost use lib.Dec.{T};
 ghost use lib.Ieee.{binary64, fits};
-ghost use Rattle.float.specs.Root.{root};
 ghost use Rattle.writing.specs.Written.{writtenNumber, writtenLength};
+ghost use Rattle.lanovishel.specs.Root.{SquareRoot};
 ghost use Rattle.lanovishel.specs.Check.{Checked};
 ghost use Rattle.lanovishel.specs.Price.{PriceCall};
 ghost use Rattle.lanovishel.specs.Nearest.{NearestCall};
@@ -31,7 +31,7 @@ ghost use Rattle.lanovishel.specs.Cut.{CutCall};
 // The square root of IEEE 754.
 #[no_mangle]
 pub extern "C" fn lanovishel_sqrt(x: f64) -> f64
-    ensures { λ r. ⌜ r ≡ root binary64 x ⌝ }
+    ensures { λ r. ⌜ SquareRoot x r ⌝ }
 {
     float::sqrt(x)
 }
