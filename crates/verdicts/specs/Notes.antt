@@ -36,6 +36,11 @@ pub record Noted (ts : List Tri) (a : ℕ) (w : List ℕ) : Type 0 where
   pub step : (x y : ℕ) → Has a x y ts → getD w x 0 ≡ y + 1
   pub none : (x : ℕ) → sides ts a x ≡ 0 → getD w x 0 ≡ 0
 
+-- After the steps around a are noted in words that were w, one for each point: no word is free. The word of each corner to which a triangle runs from a is one more than the corner after it, and every other word is 0.
+pub record StepsNoted (ts : List Tri) (a : ℕ) (w w′ : List ℕ) : Type 0 where
+  pub notes : Noted ts a w′
+  pub len : length w′ ≡ length w
+
 -- x has no note, or it is c or d
 abbrev pub apartBy : List ℕ → ℕ → ℕ → ℕ → Bool
 apartBy w c d x = eqb (getD w x 0) 0 || (eqb x c || eqb x d)

@@ -1,12 +1,15 @@
--- What one pass over the triangles finds for a collapse that keeps a and removes b. Definitions only.
+-- What one pass over the triangles finds for a collapse that keeps a and removes b, and what is said of the collapse by that. Definitions only.
 use Prim.Native.Nat.{ℕ}
+use mathlib.Core.Path.{_≡_}
 use mathlib.Core.Bool.{Bool, true, false, not, _||_, cond}
 use mathlib.Core.List.{List, [], _∷_}
 use lib.ListN.{getD, set}
 use Rattle.surface.specs.Triangle.{Tri, names}
 use Rattle.surface.specs.Check.{every}
+use Rattle.history.specs.History.{Pair}
+use Rattle.history.specs.Local.{collapseWord}
 use Rattle.verdicts.specs.Found.{Flags}
-use Rattle.verdicts.specs.Notes.{Noted}
+use Rattle.verdicts.specs.Notes.{Noted, StepsNoted}
 use Rattle.verdicts.specs.declared.CornerLabels.{CornerLabels}
 
 -- the labels that there are
@@ -29,3 +32,8 @@ flagCovered kept removed k = not (getD removed k false) || getD kept k false
 
 abbrev pub flagsCover : List Bool → List Bool → Bool
 flagsCover kept removed = every (flagCovered kept removed) allLabels
+
+-- The verdict word of the collapse of a side of the pair p; and whatever it is, the words lent for notes, w before, hold the steps around b.
+pub record CollapseJudged (p : Pair) (a b : ℕ) (space : Bool) (w w′ : List ℕ) (r : ℕ) : Type 0 where
+  pub word : r ≡ collapseWord p a b space
+  pub steps : StepsNoted (p .tris) b w w′

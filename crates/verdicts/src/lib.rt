@@ -14,11 +14,11 @@ ghost use Rattle.surface.specs.Closed.{sides, one, around, Step};
 ghost use Rattle.surface.specs.Flat.{triOf, held};
 ghost use Rattle.surface.specs.Check.{every};
 ghost use Rattle.history.specs.History.{words};
-ghost use Rattle.history.specs.Local.{collapse?, flip?, flipWord, collapseWord};
+ghost use Rattle.history.specs.Local.{collapse?, flip?, flipWord};
 ghost use Rattle.history.specs.Flat.{pairOf, entryOf};
 ghost use Rattle.verdicts.specs.Found.{hingeOf, Ready, SideAt, Hung, Labelled};
-ghost use Rattle.verdicts.specs.Notes.{On, Listed, noted, Noted, apartBy};
-ghost use Rattle.verdicts.specs.Survey.{flagged, Surveyed, flagsCover};
+ghost use Rattle.verdicts.specs.Notes.{On, Listed, noted, Noted, StepsNoted, apartBy};
+ghost use Rattle.verdicts.specs.Survey.{flagged, Surveyed, flagsCover, CollapseJudged};
 
 // Two corners are u and v.
 fn are(x: u32, y: u32, u: u32, v: u32) -> bool
@@ -213,7 +213,7 @@ fn note_step(t: [u32; 3], a: u32, notes: &mut [u32])
 pub fn note_steps(corners: &[u32], n: usize, a: u32, notes: &mut [u32])
     requires { ⌜ Listed (now corners) n (length (now notes)) ⌝ }
     requires { ⌜ ((x : ℕ) → getD (now notes) x 0 ≡ 0) ⌝ }
-    ensures { λ _. ⌜ Noted (held (now (corners .entry)) n) a (now (notes .exit)) ⌝ }
+    ensures { λ _. ⌜ StepsNoted (held (now (corners .entry)) n) a (now (notes .entry)) (now (notes .exit)) ⌝ }
 {
     let mut i = 0;
     while i < n {
@@ -406,7 +406,7 @@ pub fn flip_word(
     if space { 0 } else { 27 }
 }
 
-// The verdict word of a collapse of an existing side. `notes` has a word for each point.
+// The verdict word of a collapse of an existing side. `notes` has a word for each point, and is left with the steps around b.
 pub fn collapse_word(
     corners: &[u32],
     labels: &[u8],
@@ -420,7 +420,7 @@ pub fn collapse_word(
     requires { ⌜ Hung (now corners) (now labels) n a b h ⌝ }
     requires { ⌜ Listed (now corners) n (length (now notes)) ⌝ }
     requires { ⌜ Labelled (now corners) (now labels) n ⌝ }
-    ensures { λ r. ⌜ r ≡ collapseWord (pairOf (now (corners .entry)) (now (labels .entry)) n) a b space ⌝ }
+    ensures { λ r. ⌜ CollapseJudged (pairOf (now (corners .entry)) (now (labels .entry)) n) a b space (now (notes .entry)) (now (notes .exit)) r ⌝ }
 {
     let points = notes.len();
     clear(notes, points);

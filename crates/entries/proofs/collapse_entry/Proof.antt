@@ -56,7 +56,7 @@ returns-2 c =
     let p = c .before .before .before .before .before .before .before .before .before .before .before .before .before .before .before .args .points in
     let e = c .before .before .before .collapse-word .last .1 .1 .1 .0 in
     let f = c .before .before .before .collapse-word .kept .1 .1 .1 .0 in
-    edited-refused (c .before .before .before .before .before .before .before .before .before .before .before .before .before .before .before .pre) (entryOf 2 (c .before .before .before .before .before .before .before .before .before .before .before .before .before .before .before .args .a) (c .before .before .before .before .before .before .before .before .before .before .before .before .before .before .before .args .b)) (c .before .before .before .before .before .before .before .before .before .before .before .before .before .before .before .args .space) (e ++ drop p w) (front-size p e w f) (front-far p (needed (c .before .before .before .before .before .before .before .before .before .before .before .before .before .before .before .args .labels .now) p) e w (omega (arith, words-fit (c .before .before .before .before .before .before .before .before .before .before .before .before .before .before .before .pre))) f (omega (arith, needed-most (c .before .before .before .before .before .before .before .before .before .before .before .before .before .before .before .args .labels .now) p))) (side-there (c .before .before .before .before .before .before .before .before .before .before .before .before .before .before .before .pre) (c .before .before .before .before .before .before .before .before .before .before .before .before .before .before .before .args .a) (c .before .before .before .before .before .before .before .before .before .before .before .before .before .before .before .args .b) (c .before .before .before .before .before .before .before .before .before .before .first-on .result) (c .before .before .before .before .before .before .before .before .before .before .first-on .ensures) (c .before .before .before .before .before .before .before .before .before .if1 .left)) (c .before .before .before .collapse-word .result) (c .before .before .before .collapse-word .ensures) (c .if2 .taken)
+    edited-refused (c .before .before .before .before .before .before .before .before .before .before .before .before .before .before .before .pre) (entryOf 2 (c .before .before .before .before .before .before .before .before .before .before .before .before .before .before .before .args .a) (c .before .before .before .before .before .before .before .before .before .before .before .before .before .before .before .args .b)) (c .before .before .before .before .before .before .before .before .before .before .before .before .before .before .before .args .space) (e ++ drop p w) (front-size p e w f) (front-far p (needed (c .before .before .before .before .before .before .before .before .before .before .before .before .before .before .before .args .labels .now) p) e w (omega (arith, words-fit (c .before .before .before .before .before .before .before .before .before .before .before .before .before .before .before .pre))) f (omega (arith, needed-most (c .before .before .before .before .before .before .before .before .before .before .before .before .before .before .before .args .labels .now) p))) (side-there (c .before .before .before .before .before .before .before .before .before .before .before .before .before .before .before .pre) (c .before .before .before .before .before .before .before .before .before .before .before .before .before .before .before .args .a) (c .before .before .before .before .before .before .before .before .before .before .before .before .before .before .before .args .b) (c .before .before .before .before .before .before .before .before .before .before .first-on .result) (c .before .before .before .before .before .before .before .before .before .before .first-on .ensures) (c .before .before .before .before .before .before .before .before .before .if1 .left)) (c .before .before .before .collapse-word .result) (c .before .before .before .collapse-word .ensures .word) (c .if2 .taken)
 
 record-of-requires : tie.Need-record-of-requires
 record-of-requires c κs = hung (c .before .before .before .before .before .before .before .before .before .before .before .before .before .before .before .before .before .pre) (c .before .before .before .before .before .before .before .before .before .before .before .before .before .before .before .before .before .args .a) (c .before .before .before .before .before .before .before .before .before .before .before .before .before .before .before .before .before .args .b) (c .before .before .before .before .before .before .before .before .before .before .before .before .first-on .result) (c .before .before .before .before .before .before .before .before .before .before .before .before .first-on .ensures) (c .before .before .before .before .before .before .before .before .before .before .before .if1 .left) (c .before .before .before .before .before .before .before .before .before .hinge-of .result) (c .before .before .before .before .before .before .before .before .before .hinge-of .ensures)
@@ -80,7 +80,7 @@ returns-3 c =
     let e = c .before .before .before .before .before .before .before .before .before .before .before .before .before .collapse-word .last .1 .1 .1 .0 in
     let f = c .before .before .before .before .before .before .before .before .before .before .before .before .before .collapse-word .kept .1 .1 .1 .0 in
     let d = c .before .before .before .before .collapse-in .ensures in
-    edited-done (c .before .before .before .before .before .before .before .before .before .before .before .before .before .before .before .before .before .before .before .before .before .before .before .before .before .pre) (entryOf 2 (c .before .before .before .before .before .before .before .before .before .before .before .before .before .before .before .before .before .before .before .before .before .before .before .before .before .args .a) (c .before .before .before .before .before .before .before .before .before .before .before .before .before .before .before .before .before .before .before .before .before .before .before .before .before .args .b)) (c .before .before .before .before .before .before .before .before .before .before .before .before .before .before .before .before .before .before .before .before .before .before .before .before .before .args .space) (e ++ drop p w) (front-size p e w f) (front-far p (needed (c .before .before .before .before .before .before .before .before .before .before .before .before .before .before .before .before .before .before .before .before .before .before .before .before .before .args .labels .now) p) e w (omega (arith, words-fit (c .before .before .before .before .before .before .before .before .before .before .before .before .before .before .before .before .before .before .before .before .before .before .before .before .before .pre))) f (omega (arith, needed-most (c .before .before .before .before .before .before .before .before .before .before .before .before .before .before .before .before .before .before .before .before .before .before .before .before .before .args .labels .now) p))) (side-there (c .before .before .before .before .before .before .before .before .before .before .before .before .before .before .before .before .before .before .before .before .before .before .before .before .before .pre) (c .before .before .before .before .before .before .before .before .before .before .before .before .before .before .before .before .before .before .before .before .before .before .before .before .before .args .a) (c .before .before .before .before .before .before .before .before .before .before .before .before .before .before .before .before .before .before .before .before .before .before .before .before .before .args .b) (c .before .before .before .before .before .before .before .before .before .before .before .before .before .before .before .before .before .before .before .before .first-on .result) (c .before .before .before .before .before .before .before .before .before .before .before .before .before .before .before .before .before .before .before .before .first-on .ensures) (c .before .before .before .before .before .before .before .before .before .before .before .before .before .before .before .before .before .before .before .if1 .left)) (c .before .before .before .before .before .before .before .before .before .before .before .before .before .collapse-word .result) (c .before .before .before .before .before .before .before .before .before .before .before .before .before .collapse-word .ensures) (c .before .before .before .before .before .before .before .before .before .before .if2 .left)
+    edited-done (c .before .before .before .before .before .before .before .before .before .before .before .before .before .before .before .before .before .before .before .before .before .before .before .before .before .pre) (entryOf 2 (c .before .before .before .before .before .before .before .before .before .before .before .before .before .before .before .before .before .before .before .before .before .before .before .before .before .args .a) (c .before .before .before .before .before .before .before .before .before .before .before .before .before .before .before .before .before .before .before .before .before .before .before .before .before .args .b)) (c .before .before .before .before .before .before .before .before .before .before .before .before .before .before .before .before .before .before .before .before .before .before .before .before .before .args .space) (e ++ drop p w) (front-size p e w f) (front-far p (needed (c .before .before .before .before .before .before .before .before .before .before .before .before .before .before .before .before .before .before .before .before .before .before .before .before .before .args .labels .now) p) e w (omega (arith, words-fit (c .before .before .before .before .before .before .before .before .before .before .before .before .before .before .before .before .before .before .before .before .before .before .before .before .before .pre))) f (omega (arith, needed-most (c .before .before .before .before .before .before .before .before .before .before .before .before .before .before .before .before .before .before .before .before .before .before .before .before .before .args .labels .now) p))) (side-there (c .before .before .before .before .before .before .before .before .before .before .before .before .before .before .before .before .before .before .before .before .before .before .before .before .before .pre) (c .before .before .before .before .before .before .before .before .before .before .before .before .before .before .before .before .before .before .before .before .before .before .before .before .before .args .a) (c .before .before .before .before .before .before .before .before .before .before .before .before .before .before .before .before .before .before .before .before .before .before .before .before .before .args .b) (c .before .before .before .before .before .before .before .before .before .before .before .before .before .before .before .before .before .before .before .before .first-on .result) (c .before .before .before .before .before .before .before .before .before .before .before .before .before .before .before .before .before .before .before .before .first-on .ensures) (c .before .before .before .before .before .before .before .before .before .before .before .before .before .before .before .before .before .before .before .if1 .left)) (c .before .before .before .before .before .before .before .before .before .before .before .before .before .collapse-word .result) (c .before .before .before .before .before .before .before .before .before .before .before .before .before .collapse-word .ensures .word) (c .before .before .before .before .before .before .before .before .before .before .if2 .left)
     (collapse-accepted (pairOf (c .before .before .before .before .before .before .before .before .before .before .before .before .before .before .before .before .before .before .before .before .before .before .before .before .before .args .corners .now) (c .before .before .before .before .before .before .before .before .before .before .before .before .before .before .before .before .before .before .before .before .before .before .before .before .before .args .labels .now) (c .before .before .before .before .before .before .before .before .before .before .before .before .before .before .before .before .before .before .before .before .before .before .before .before .before .args .n)) (c .before .before .before .before .before .before .before .before .before .before .before .before .before .before .before .before .before .before .before .before .before .before .before .before .before .pre .good .sound .closed) (c .before .before .before .before .before .before .before .before .before .before .before .before .before .before .before .before .before .before .before .before .before .before .before .before .before .args .a) (c .before .before .before .before .before .before .before .before .before .before .before .before .before .before .before .before .before .before .before .before .before .before .before .before .before .args .b) (c .before .before .before .before .before .before .before .before .before .before .before .before .before .before .before .before .before .before .before .before .before .before .before .before .before .args .space))
     (c .before .before .before .before .before .before .before .record-of .result) (c .before .before .before .before .before .before .before .record-of .ensures) (c .before .before .before .before .collapse-in .last .0) (c .before .before .before .before .collapse-in .last .1 .0) (c .before .before .before .before .collapse-in .result) (c .before .before .before .before .collapse-in .kept .0) (c .before .before .before .before .collapse-in .kept .1 .0) (omega (arith, d .count))
     (d .is) (d .freed (zero-corners (c .before .before .before .before .before .before .before .before .before .before .before .before .before .before .before .before .before .before .before .before .before .before .before .before .before .pre))) (d .unlabelled (zero-labels (c .before .before .before .before .before .before .before .before .before .before .before .before .before .before .before .before .before .before .before .before .before .before .before .before .before .pre)))

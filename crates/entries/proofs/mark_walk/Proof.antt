@@ -47,7 +47,7 @@ wide-requires-2 : tie.Need-wide-requires-2 Inv-loop μ-loop
 wide-requires-2 c κs = search needs
 
 loop-holds : tie.Need-loop-holds Inv-loop μ-loop
-loop-holds c = walking-start (c .before .before .before .before .before .before .before .before .before .before .before .before .pre .0) (c .before .before .before .before .before .before .before .before .before .before .before .before .pre .1 .1) (c .before .before .before .before .before .before .before .before .clear .last .0) (c .before .before .before .before .note-steps .last .1 .1 .1 .0) (cleared-all (c .before .before .before .before .before .before .before .before .before .before .before .before .args .points + c .before .before .before .before .before .before .before .before .before .before .before .before .args .points) (c .before .before .before .before .before .before .before .before .before .before .before .before .args .notes .now) (c .before .before .before .before .before .before .before .before .clear .last .0) (c .before .before .before .before .before .before .before .before .before .before .before .before .pre .1 .0) (c .before .before .before .before .before .before .before .before .clear .ensures)) (c .before .before .before .before .before .before .before .before .clear .kept .0 ∙ c .before .before .before .before .before .before .before .before .before .before .before .before .pre .1 .0) (c .before .before .before .before .note-steps .kept .1 .1 .1 .0) (c .before .before .before .before .note-steps .ensures) (c .before .wide .result) (c .before .wide .ensures)
+loop-holds c = walking-start (c .before .before .before .before .before .before .before .before .before .before .before .before .pre .0) (c .before .before .before .before .before .before .before .before .before .before .before .before .pre .1 .1) (c .before .before .before .before .before .before .before .before .clear .last .0) (c .before .before .before .before .note-steps .last .1 .1 .1 .0) (cleared-all (c .before .before .before .before .before .before .before .before .before .before .before .before .args .points + c .before .before .before .before .before .before .before .before .before .before .before .before .args .points) (c .before .before .before .before .before .before .before .before .before .before .before .before .args .notes .now) (c .before .before .before .before .before .before .before .before .clear .last .0) (c .before .before .before .before .before .before .before .before .before .before .before .before .pre .1 .0) (c .before .before .before .before .before .before .before .before .clear .ensures)) (c .before .before .before .before .before .before .before .before .clear .kept .0 ∙ c .before .before .before .before .before .before .before .before .before .before .before .before .pre .1 .0) (c .before .before .before .before .note-steps .kept .1 .1 .1 .0) (c .before .before .before .before .note-steps .ensures .notes) (c .before .wide .result) (c .before .wide .ensures)
 
 add-notes : tie.Need-add-notes Inv-loop μ-loop
 add-notes c = omega (arith, walking-below (c .before .loop .inv) (λ e. c .loop-test .taken (e ∙ sym (c .before .before .wide2 .ensures))), c .before .before .before .before .before .before .before .before .before .before .before .before .before .before .pre .0 .bound)

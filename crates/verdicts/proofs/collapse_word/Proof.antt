@@ -5,9 +5,21 @@ use Rattle.verdicts.proofs.Notes.{cleared, listed-as}
 use borrow.Author.Tests.{not-true, not-false}
 use mathlib.Core.Bool.{true, false}
 use mathlib.Core.Path.{_∙_}
+use mathlib.Core.List.{List}
+use Prim.Native.Nat.{ℕ}
+use denote.Ref.{now}
+use Rattle.surface.specs.Flat.{held}
+use Rattle.verdicts.specs.Notes.{StepsNoted}
 use borrow.Author.Needs.{needs}
 use Rattle.verdicts.proofs.collapse_word.Statement.{statement}
 use Rattle.verdicts.proofs.collapse_word.Tie as tie
+
+abbrev S : tie.After-survey → tie.Start
+S m = m .before .before .before .before .before .before .before .before .before
+
+-- the notes are those of the survey, whatever the verdict
+noted : (m : tie.After-survey) → StepsNoted (held (now (S m .args .corners)) (S m .args .n)) (S m .args .b) (now (S m .args .notes)) (m .survey .last .1 .1 .1 .1 .1 .0)
+noted m = record { notes = m .survey .ensures .notes; len = m .survey .kept .1 .1 .1 .1 .1 .0 ∙ m .before .before .before .before .clear .kept .0 }
 
 clear-requires : tie.Need-clear-requires
 clear-requires c κs = search needs
@@ -29,7 +41,7 @@ returns c =
     let k = c .before in
     let m = k .before .before .before in
     let o = m .before .before .before .before .before .before .before .before .before in
-    uncovered-word (o .args .h) (o .pre .0) (o .args .space) (k .covers .result) (k .covers .ensures ∙ cover-law (o .pre .1 .1) (m .survey .ensures)) (not-true _ (c .if1 .taken))
+    record { word = uncovered-word (o .args .h) (o .pre .0) (o .args .space) (k .covers .result) (k .covers .ensures ∙ cover-law (o .pre .1 .1) (m .survey .ensures)) (not-true _ (c .if1 .taken)); steps = noted m }
 
 may-collapse-requires : tie.Need-may-collapse-requires
 may-collapse-requires c κs =
@@ -46,7 +58,7 @@ returns-2 c =
     let k = c .before .before .before .before in
     let m = k .before .before .before in
     let o = m .before .before .before .before .before .before .before .before .before in
-    collapse-word-is (o .args .h) (o .pre .0) (o .args .space) (k .covers .result) (k .covers .ensures ∙ cover-law (o .pre .1 .1) (m .survey .ensures)) (not-false _ (c .before .before .before .if1 .left)) (c .before .may-collapse .result) (c .before .may-collapse .ensures) false (not-true _ (c .if2 .taken))
+    record { word = collapse-word-is (o .args .h) (o .pre .0) (o .args .space) (k .covers .result) (k .covers .ensures ∙ cover-law (o .pre .1 .1) (m .survey .ensures)) (not-false _ (c .before .before .before .if1 .left)) (c .before .may-collapse .result) (c .before .may-collapse .ensures) false (not-true _ (c .if2 .taken)); steps = noted m }
 
 same-length-3 : tie.Need-same-length-3
 same-length-3 c = search needs
@@ -56,7 +68,7 @@ returns-3 c =
     let k = c .before .before .before .before .before in
     let m = k .before .before .before in
     let o = m .before .before .before .before .before .before .before .before .before in
-    rw (c .if3 .taken) (collapse-word-is (o .args .h) (o .pre .0) true (k .covers .result) (k .covers .ensures ∙ cover-law (o .pre .1 .1) (m .survey .ensures)) (not-false _ (c .before .before .before .before .if1 .left)) (c .before .before .may-collapse .result) (c .before .before .may-collapse .ensures) true (not-false _ (c .before .if2 .left)))
+    record { word = rw (c .if3 .taken) (collapse-word-is (o .args .h) (o .pre .0) true (k .covers .result) (k .covers .ensures ∙ cover-law (o .pre .1 .1) (m .survey .ensures)) (not-false _ (c .before .before .before .before .if1 .left)) (c .before .before .may-collapse .result) (c .before .before .may-collapse .ensures) true (not-false _ (c .before .if2 .left))); steps = noted m }
 
 same-length-4 : tie.Need-same-length-4
 same-length-4 c = search needs
@@ -66,7 +78,7 @@ returns-4 c =
     let k = c .before .before .before .before .before in
     let m = k .before .before .before in
     let o = m .before .before .before .before .before .before .before .before .before in
-    rw (c .if3 .left) (collapse-word-is (o .args .h) (o .pre .0) false (k .covers .result) (k .covers .ensures ∙ cover-law (o .pre .1 .1) (m .survey .ensures)) (not-false _ (c .before .before .before .before .if1 .left)) (c .before .before .may-collapse .result) (c .before .before .may-collapse .ensures) true (not-false _ (c .before .if2 .left)))
+    record { word = rw (c .if3 .left) (collapse-word-is (o .args .h) (o .pre .0) false (k .covers .result) (k .covers .ensures ∙ cover-law (o .pre .1 .1) (m .survey .ensures)) (not-false _ (c .before .before .before .before .if1 .left)) (c .before .before .may-collapse .result) (c .before .before .may-collapse .ensures) true (not-false _ (c .before .if2 .left))); steps = noted m }
 
 pub collapse-word-spec : {M : Type 1} → statement M
 collapse-word-spec =

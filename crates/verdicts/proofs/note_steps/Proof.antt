@@ -40,7 +40,7 @@ same-length : tie.Need-same-length Inv-loop μ-loop
 same-length c = c .before .loop .inv .1 .size
 
 returns : tie.Need-returns Inv-loop μ-loop
-returns c = noting-end (c .before .before .before .before .pre .0) (c .before .loop .inv .1) (c .before .loop .inv .0) (c .loop-test .left)
+returns c = record { notes = noting-end (c .before .before .before .before .pre .0) (c .before .loop .inv .1) (c .before .loop .inv .0) (c .loop-test .left); len = c .before .loop .inv .1 .size }
 
 pub note-steps-spec : {M : Type 1} → statement M
 note-steps-spec =
