@@ -115,6 +115,7 @@ module _ {l ls : List ℕ} {n points : ℕ} {w : List ℕ} (s : Standing l ls n 
       written = λ z. absurd (omega arith);
       kept = λ z. (refl, refl, refl, refl);
       standing = standing-words w′ ew;
+      lengths = (refl, refl, ew);
       further = far;
     }
 
@@ -131,6 +132,7 @@ module _ {l ls : List ℕ} {n points : ℕ} {w : List ℕ} (s : Standing l ls n 
         written = λ z. absurd (m z);
         kept = λ z. (refl, refl, refl, refl);
         standing = standing-words w′ ew;
+        lengths = (refl, refl, ew);
         further = far;
       }
 
@@ -147,6 +149,7 @@ module _ {l ls : List ℕ} {n points : ℕ} {w : List ℕ} (s : Standing l ls n 
             written = λ q. f;
             kept = λ q. absurd (q z);
             standing = standing-lists l′ ls′ w′ m el els ew (omega arith) (subst (λ (p : Pair). Good points p) (sym g) (edit-good (s .good) t)) zl zs;
+            lengths = (el, els, ew);
             further = far;
           }
 

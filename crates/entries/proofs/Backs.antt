@@ -184,6 +184,7 @@ module _ {l ls : List ℕ} {n points : ℕ} {w ws : List ℕ} (s : Standing l ls
   taken-back l′ ls′ w′ m el els ew r g zl zs far = record {
     is = g;
     standing = standing-lists s l′ ls′ w′ m el els ew r (subst (λ (p : Pair). Good points p) (sym (g ∙ recorded-undone (d .recorded))) (d .recorded .good)) zl zs;
+    lengths = (el, els, ew);
     further = far;
   }
 

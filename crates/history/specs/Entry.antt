@@ -41,6 +41,8 @@ pub record Edited (points : ℕ) (l ls : List ℕ) (n : ℕ) (w : List ℕ) (e :
   pub written : word ≡ 0 → ws ≡ words (pairOf l ls n) e
   pub kept : (word ≡ 0 → ⊥) → (l′ ≡ l) × (ls′ ≡ ls) × (m ≡ n) × (ws ≡ replicate 12 0)
   pub standing : Standing l′ ls′ m points w′
+  -- the lists are as long as they were; of the work words the needed ones are free, since the tests take their notes in them, and the further ones are as they were
+  pub lengths : (length l′ ≡ length l) × (length ls′ ≡ length ls) × (length w′ ≡ length w)
   pub further : drop (needed ls points) w′ ≡ drop (needed ls points) w
 
 -- ws is the record of an accepted edit that made p of q, and q is good and fits the lists
@@ -61,4 +63,6 @@ pub record Undoable (points size : ℕ) (ws : List ℕ) (p : Pair) : Type 0 wher
 pub record TakenBack (points : ℕ) (l ls : List ℕ) (n : ℕ) (w ws l′ ls′ : List ℕ) (m : ℕ) (w′ : List ℕ) : Type 0 where
   pub is : pairOf l′ ls′ m ≡ undone ws (pairOf l ls n)
   pub standing : Standing l′ ls′ m points w′
+  -- as after an edit
+  pub lengths : (length l′ ≡ length l) × (length ls′ ≡ length ls) × (length w′ ≡ length w)
   pub further : drop (needed ls points) w′ ≡ drop (needed ls points) w
