@@ -13,6 +13,7 @@ use Rattle.surface.specs.Triangle.{triangles}
 use Rattle.surface.specs.Closed.{one, sides, Closed}
 use Rattle.surface.proofs.Bridge.{closed-surface}
 use Rattle.halfedges.specs.Place.{nx, pv, at}
+use Rattle.halfedges.proofs.Free.{free-none}
 use Rattle.halfedges.proofs.Turns.{same-or}
 use Rattle.halfedges.proofs.Fine.{apart-cases}
 use Rattle.chains.specs.Chain.{from}
@@ -46,6 +47,7 @@ pub across-first : (c : List ℕ) (p marks v q : ℕ) (w : List ℕ) → q ≡ f
 across-first c p marks v q w e = record {
   len = refl;
   under = λ j l. refl;
+  over = λ j l. refl;
   done = λ k l n. let m : Next c v 0 (length c) q = rw e (from-next c v 0 (length c) (length c) (omega arith)) in absurd (m .none k (omega arith) l n);
   others = λ k n. refl;
 }
@@ -55,6 +57,7 @@ pub across-turn : (c : List ℕ) (p marks v q r k m : ℕ) (w w′ : List ℕ) �
 across-turn c p marks v q r k m w w′ room e o f g a = record {
   len = length-set w′ (marks + k) m ∙ a .len;
   under = λ j l. getD-set-other w′ (marks + k) j m 0 (λ z. omega arith) ∙ a .under j l;
+  over = λ j l. getD-set-other w′ (marks + k) j m 0 (λ z. omega (arith, own .1)) ∙ a .over j l;
   done = λ j l n. go j l n (same-or j k);
   others = λ j n. getD-set-other w′ (marks + k) (marks + j) m 0 (λ z. n (ap (at c) (off j z) ∙ own .0)) ∙ a .others j n;
 }
@@ -78,20 +81,23 @@ across-turn c p marks v q r k m w w′ room e o f g a = record {
         later (inl i) = getD-set-other w′ (marks + k) (marks + j) m 0 (λ y. z (off j y)) ∙ a .done j i n
         later (inr i) = absurd (next .none j i l n)
 
-pub across-none : (c : List ℕ) (p stamps marks : ℕ) (w w′ : List ℕ) → length w′ ≡ length w → ((j : ℕ) → j < stamps → at w′ j ≡ at w j) → ((x : ℕ) → x < p → at w′ (stamps + x) ≡ 0) → AcrossBelow c p stamps marks 0 w w′
-across-none c p stamps marks w w′ e k z = record { len = e; under = k; low = λ x l. let m = z x l in omega arith; done = λ i l m. absurd (omega arith) }
+pub across-none : (c : List ℕ) (p stamps marks : ℕ) (w : List ℕ) → ((x : ℕ) → x < p → at w (stamps + x) ≡ 0) → AcrossBelow c p stamps marks 0 w w
+across-none c p stamps marks w z = record { rest = free-none w; low = λ x l. let m = z x l in omega arith; done = λ i l m. absurd (omega arith) }
 
 pub across-more : (c : List ℕ) (p stamps marks v : ℕ) (w₀ w w₁ w₂ : List ℕ) → stamps + p ≤ marks → p * 3 + length c + length c ≤ stamps → Lists c p → AcrossBelow c p stamps marks v w₀ w → Stamping c p stamps v (length c) w w₁ → AcrossOf c p marks v (length c) w₁ w₂
     → AcrossBelow c p stamps marks (v + 1) w₀ w₂
 across-more c p stamps marks v w₀ w w₁ w₂ third first h m s o = record {
-  len = o .len ∙ s .len ∙ m .len;
-  under = λ j l. o .under j (omega arith) ∙ s .under j l ∙ m .under j l;
+  rest = record {
+    len = o .len ∙ s .len ∙ m .rest .len;
+    under = λ j l. o .under j (omega arith) ∙ s .under j l ∙ m .rest .under j l;
+    over = λ j l. o .over j l ∙ s .over j (omega arith) ∙ m .rest .over j l;
+  };
   low = λ x l. let q = o .under (stamps + x) (omega arith) in let r = m .low x l in let n = s .low x (v + 1) (omega arith) (omega arith) in omega arith;
   done = λ k l i. go k l i (same-or (at c k) v);
 }
   where
     same : (k : ℕ) → k < length c → across c p w₁ k ≡ across c p w₀ k
-    same k l = ap (λ (t : ℕ). at c (pv t)) (s .under (p * 3 + length c + nx k) (near k l) ∙ m .under (p * 3 + length c + nx k) (near k l))
+    same k l = ap (λ (t : ℕ). at c (pv t)) (s .under (p * 3 + length c + nx k) (near k l) ∙ m .rest .under (p * 3 + length c + nx k) (near k l))
       where
         near : (k : ℕ) → k < length c → p * 3 + length c + nx k < stamps
         near k l = let z : nx k < length c = nx-low k l in omega arith

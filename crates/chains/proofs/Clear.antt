@@ -6,6 +6,7 @@ use mathlib.Core.List.{List, [], _∷_, _++_, append-assoc, append-nil}
 use lib.ListN.{length, take, drop, replicate, length-replicate, getD-replicate, List·getD-append, length-append, length-take, length-drop}
 use lib.Seq.{getD-append-add, getD-drop, getD-take, take-all, length-take-le}
 use Rattle.halfedges.specs.Place.{at}
+use Rattle.halfedges.specs.Free.{Free}
 use Rattle.chains.specs.Chain.{Chained}
 use Rattle.chains.specs.Marks.{Cleared}
 use Rattle.chains.proofs.Marks.{chained-part}
@@ -70,12 +71,49 @@ clear-part base p w v w′ room e f = record {
             last : at (drop p (drop base w) ++ r) i ≡ at (drop p (drop base w)) i
             last = ap (λ (x : List ℕ). at x i) (nil-tail (drop p (drop base w)) r empty)
 
-pub chained-at : (c : List ℕ) (p chains : ℕ) (w v w′ : List ℕ) → chains + p + length c ≤ length w → length v ≡ length (take (length w - chains) (drop chains w)) → Chained c p v 0 → w′ ≡ take chains w ++ (v ++ drop (length w - chains) (drop chains w)) → ChainedAt c p chains w w′
-chained-at c p chains w v w′ room size h e =
+-- and where words of the part are free, those words of the whole are
+pub free-part : (base hi : ℕ) (w v w′ : List ℕ) → base ≤ length w → Free 0 hi (take (length w - base) (drop base w)) v → w′ ≡ take base w ++ (v ++ drop (length w - base) (drop base w)) → Free base (base + hi) w w′
+free-part base hi w v w′ room f e = record {
+  len = ap length e ∙ length-append (take base w) (v ++ r) ∙ omega (arith, length-append v r, length-take base w, size, length-drop (length w - base) (drop base w), length-drop base w);
+  under = λ j l. ap (λ (x : List ℕ). at x j) e ∙ part-under base w v r j room l;
+  over = λ j l. over j l;
+}
+  where
+    r : List ℕ
+    r = drop (length w - base) (drop base w)
+
+    whole : take (length w - base) (drop base w) ≡ drop base w
+    whole = take-all (length w - base) (drop base w) (omega (arith, length-drop base w))
+
+    size : length v ≡ length w - base
+    size = f .len ∙ ap length whole ∙ length-drop base w
+
+    nil-tail : (a b : List ℕ) → length b ≡ 0 → a ++ b ≡ a
+    nil-tail a [] q = append-nil a
+    nil-tail a (x ∷ b) q = absurd (omega arith)
+
+    empty : length r ≡ 0
+    empty = omega (arith, length-drop (length w - base) (drop base w), length-drop base w)
+
+    over : (j : ℕ) → base + hi ≤ j → at w′ j ≡ at w j
+    over j l =
+        let z : base + (j - base) ≡ j = omega arith in
+        subst (λ (n : ℕ). at w′ n ≡ at w n) z
+        (ap (λ (x : List ℕ). at x (base + (j - base))) e
+        ∙ at-back (take base w) (v ++ r) base (j - base) (length-take-le base w room)
+        ∙ ap (λ (x : List ℕ). at x (j - base)) (nil-tail v r empty)
+        ∙ f .over (j - base) (omega arith)
+        ∙ ap (λ (x : List ℕ). at x (j - base)) whole
+        ∙ getD-drop base w (j - base) 0)
+
+pub chained-at : (c : List ℕ) (p chains : ℕ) (w v w′ : List ℕ) → chains + p + length c ≤ length w → ChainedAt c p 0 (take (length w - chains) (drop chains w)) v → w′ ≡ take chains w ++ (v ++ drop (length w - chains) (drop chains w)) → ChainedAt c p chains w w′
+chained-at c p chains w v w′ room h e =
     let r = drop (length w - chains) (drop chains w) in
     let a = length-take (length w - chains) (drop chains w) in
     let b = length-drop chains w in
+    let size = h .rest .len in
+    let z : chains + (0 + p + length c) ≡ chains + p + length c = omega arith in
     record {
-      chained = chained-part c p chains v w′ (λ j l. ap (λ (x : List ℕ). at x (chains + j)) e ∙ part-in chains w v r j (omega arith) (omega arith)) h;
-      under = λ j l. ap (λ (x : List ℕ). at x j) e ∙ part-under chains w v r j (omega arith) l;
+      chained = chained-part c p chains v w′ (λ j l. ap (λ (x : List ℕ). at x (chains + j)) e ∙ part-in chains w v r j (omega arith) (omega arith)) (h .chained);
+      rest = subst (λ (n : ℕ). Free chains n w w′) z (free-part chains (0 + p + length c) w v w′ (omega arith) (h .rest) e);
     }

@@ -10,6 +10,8 @@ use lib.Seq.{getD-set-same, getD-set-other}
 use Rattle.surface.specs.Triangle.{triangles}
 use Rattle.surface.specs.Closed.{one, sides, Closed}
 use Rattle.halfedges.specs.Place.{nx, pv, at, uses}
+use Rattle.halfedges.specs.Free.{Free}
+use Rattle.halfedges.proofs.Free.{free-none}
 use Rattle.halfedges.proofs.Turns.{same-or}
 use Rattle.sides.specs.Side.{Twin}
 use Rattle.sides.proofs.Twins.{twin-twice}
@@ -53,10 +55,10 @@ told-lone c p w stamps v k t r h closed l e tw st told = go r refl
         pick false f = sym f
 
 pub keeps-none : (c : List ℕ) (marks : ℕ) (w : List ℕ) → Keeps c marks w w
-keeps-none c marks w = record { len = refl; under = λ j l. refl; right = λ j r. r }
+keeps-none c marks w = record { len = refl; under = λ j l. refl; over = λ j l. refl; right = λ j r. r }
 
 pub keeps-more : {c : List ℕ} {marks : ℕ} {w w′ w″ : List ℕ} → Keeps c marks w w′ → Keeps c marks w′ w″ → Keeps c marks w w″
-keeps-more f g = record { len = g .len ∙ f .len; under = λ j l. g .under j l ∙ f .under j l; right = λ j r. g .right j (f .right j r) }
+keeps-more f g = record { len = g .len ∙ f .len; under = λ j l. g .under j l ∙ f .under j l; over = λ j l. g .over j l ∙ f .over j l; right = λ j r. g .right j (f .right j r) }
 
 pub marked-none : (c : List ℕ) (p marks k : ℕ) (w : List ℕ) → uses c (at c k) (length c) < uses c (at c (nx k)) (length c) → Marked c p marks k w w
 marked-none c p marks k w h = record { keeps = keeps-none c marks w; done = λ l. absurd (omega arith) }
@@ -67,6 +69,7 @@ marked-turn c p marks k t m w h closed l room e tw v = record {
   keeps = record {
     len = length-set u (marks + t) m ∙ length-set w (marks + k) m;
     under = λ j i. getD-set-other u (marks + t) j m 0 (λ z. omega arith) ∙ getD-set-other w (marks + k) j m 0 (λ z. omega arith);
+    over = λ j i. getD-set-other u (marks + t) j m 0 (λ z. omega (arith, tw .low)) ∙ getD-set-other w (marks + k) j m 0 (λ z. omega arith);
     right = λ j r. right j r (same-or j t) (same-or j k);
   };
   done = λ i. (right-k (same-or k t), subst (λ (x : ℕ). Right c marks (set (set w (marks + k) m) (marks + t) m) x) e right-t);
@@ -98,13 +101,12 @@ settled-more {c} {marks} p w k g s l = let r = s l in (g .right k (r .0), g .rig
 
 -- the sides of the corners below v are marked
 pub record MarkedBelow (c : List ℕ) (p stamps marks v : ℕ) (w w′ : List ℕ) : Type 0 where
-  pub len : length w′ ≡ length w
-  pub under : (j : ℕ) → j < stamps → at w′ j ≡ at w j
+  pub rest : Free stamps (marks + length c) w w′
   pub low : (x : ℕ) → x < p → at w′ (stamps + x) ≤ v
   pub done : (k : ℕ) → k < length c → at c k < v → Settled c p marks w w′ k
 
 pub marked-all : (c : List ℕ) (p stamps marks : ℕ) (w w′ : List ℕ) → Lists c p → Closed (triangles c) → ((k : ℕ) → k < length c → Twin c k (at w (p * 3 + length c + k))) → MarkedBelow c p stamps marks p w w′ → SidesMarked c stamps marks w w′
-marked-all c p stamps marks w w′ h closed tw m = record { len = m .len; under = m .under; each = λ k l. go k l (either (uses c (at c (nx k)) (length c)) (uses c (at c k) (length c))) }
+marked-all c p stamps marks w w′ h closed tw m = record { rest = m .rest; each = λ k l. go k l (either (uses c (at c (nx k)) (length c)) (uses c (at c k) (length c))) }
   where
     either : (x y : ℕ) → (x ≤ y) ⊎ (y ≤ x)
     either zero y = inl (omega arith)
@@ -129,14 +131,17 @@ stamped-of c p stamps v w w′ h low s = record {
   low = λ x l. let m = low x l in s .low x (v + 1) (omega arith) (omega arith);
 }
 
-pub below-first : (c : List ℕ) (p stamps marks : ℕ) (w w′ : List ℕ) → length w′ ≡ length w → ((j : ℕ) → j < stamps → at w′ j ≡ at w j) → ((x : ℕ) → x < p → at w′ (stamps + x) ≡ 0) → MarkedBelow c p stamps marks 0 w w′
-below-first c p stamps marks w w′ e k z = record { len = e; under = k; low = λ x l. let m = z x l in omega arith; done = λ i l m. absurd (omega arith) }
+pub below-first : (c : List ℕ) (p stamps marks : ℕ) (w : List ℕ) → ((x : ℕ) → x < p → at w (stamps + x) ≡ 0) → MarkedBelow c p stamps marks 0 w w
+below-first c p stamps marks w z = record { rest = free-none w; low = λ x l. let m = z x l in omega arith; done = λ i l m. absurd (omega arith) }
 
 pub below-turn : (c : List ℕ) (p stamps marks v : ℕ) (w₀ w w₁ w₂ : List ℕ) → stamps + p ≤ marks → p * 3 + length c + length c ≤ stamps → Lists c p → MarkedBelow c p stamps marks v w₀ w → Stamping c p stamps v (length c) w w₁ → MarkedOf c p marks v (length c) w₁ w₂
     → MarkedBelow c p stamps marks (v + 1) w₀ w₂
 below-turn c p stamps marks v w₀ w w₁ w₂ third first h m s o = record {
-  len = o .keeps .len ∙ s .len ∙ m .len;
-  under = λ j l. o .keeps .under j (omega arith) ∙ s .under j l ∙ m .under j l;
+  rest = record {
+    len = o .keeps .len ∙ s .len ∙ m .rest .len;
+    under = λ j l. o .keeps .under j (omega arith) ∙ s .under j l ∙ m .rest .under j l;
+    over = λ j l. o .keeps .over j l ∙ s .over j (omega arith) ∙ m .rest .over j l;
+  };
   low = λ x l. let q = o .keeps .under (stamps + x) (omega arith) in let r = m .low x l in let n = s .low x (v + 1) (omega arith) (omega arith) in omega arith;
   done = λ k l i. go k l i (same-or (at c k) v);
 }
@@ -145,7 +150,7 @@ below-turn c p stamps marks v w₀ w w₁ w₂ third first h m s o = record {
     kept j r = o .keeps .right j (s .over (marks + j) (omega arith) ∙ r)
 
     same : (k : ℕ) → k < length c → at w₁ (p * 3 + length c + k) ≡ at w₀ (p * 3 + length c + k)
-    same k l = s .under (p * 3 + length c + k) (omega arith) ∙ m .under (p * 3 + length c + k) (omega arith)
+    same k l = s .under (p * 3 + length c + k) (omega arith) ∙ m .rest .under (p * 3 + length c + k) (omega arith)
 
     go : (k : ℕ) → k < length c → at c k < v + 1 → (at c k ≡ v) ⊎ (at c k ≡ v → ⊥) → Settled c p marks w₀ w₂ k
     go k l i (inl e) u = let r = o .done k l e u in (r .0, subst (Right c marks w₂) (same k l) (r .1))

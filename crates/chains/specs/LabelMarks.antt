@@ -7,6 +7,7 @@ use Rattle.surface.specs.Triangle.{triangles}
 use Rattle.surface.specs.Closed.{one}
 use Rattle.surface.specs.Label.{carries}
 use Rattle.halfedges.specs.Place.{at}
+use Rattle.halfedges.specs.Free.{Free}
 
 -- the marks stand in the words from base on: 1 where v carries the label l, else 0
 pub record Carried (c ls : List ℕ) (p : ℕ) (w : List ℕ) (base : ℕ) : Type 0 where
@@ -16,3 +17,8 @@ pub record Carried (c ls : List ℕ) (p : ℕ) (w : List ℕ) (base : ℕ) : Typ
 pub record Labelled (c ls : List ℕ) : Type 0 where
   pub size : length ls * 3 ≡ length c
   pub small : (i : ℕ) → i < length ls → getD ls i 0 < 8
+
+-- after the labels are marked, in words that were w: the marks stand in the first ones, and no other word changes
+pub record LabelsMarked (c ls : List ℕ) (p : ℕ) (w w′ : List ℕ) : Type 0 where
+  pub carries : Carried c ls p w′ 0
+  pub rest : Free 0 (p * 8) w w′

@@ -7,6 +7,7 @@ use mathlib.Core.List.{List}
 use lib.ListN.{length}
 use Rattle.surface.specs.Closed.{one}
 use Rattle.halfedges.specs.Place.{nx, at, uses}
+use Rattle.halfedges.specs.Free.{Free}
 use Rattle.chains.specs.Flat.{Runs}
 use Rattle.chains.specs.Common.{lone}
 
@@ -43,10 +44,11 @@ pub record Stamped (c : List ℕ) (p : ℕ) (w : List ℕ) (stamps v : ℕ) : Ty
 abbrev pub Right : List ℕ → ℕ → List ℕ → ℕ → Type 0
 Right c marks w j = at w (marks + j) ≡ one (lone c j)
 
--- what a stage of the marking leaves: words below the marks, and marks that are right already
+-- what a stage of the marking leaves: words below the marks and behind them, and marks that are right already
 pub record Keeps (c : List ℕ) (marks : ℕ) (w w′ : List ℕ) : Type 0 where
   pub len : length w′ ≡ length w
   pub under : (j : ℕ) → j < marks → at w′ j ≡ at w j
+  pub over : (j : ℕ) → marks + length c ≤ j → at w′ j ≡ at w j
   pub right : (j : ℕ) → Right c marks w j → Right c marks w′ j
 
 -- the side of the place k of v is marked, at both its places, where the other end has no more triangles than v
@@ -62,8 +64,7 @@ pub record MarkedOf (c : List ℕ) (p marks v i : ℕ) (w w′ : List ℕ) : Typ
   pub keeps : Keeps c marks w w′
   pub done : (k : ℕ) → k < i → at c k ≡ v → Settled c p marks w w′ k
 
--- all are
+-- all are; the stamps are free
 pub record SidesMarked (c : List ℕ) (stamps marks : ℕ) (w w′ : List ℕ) : Type 0 where
-  pub len : length w′ ≡ length w
-  pub under : (j : ℕ) → j < stamps → at w′ j ≡ at w j
   pub each : (k : ℕ) → k < length c → Right c marks w′ k
+  pub rest : Free stamps (marks + length c) w w′

@@ -13,6 +13,8 @@ use mir.Val.{boolByte}
 use Rattle.surface.specs.Closed.{one, sides, Closed}
 use Rattle.surface.specs.Triangle.{triangles}
 use Rattle.halfedges.specs.Place.{nx, pv, at, uses}
+use Rattle.halfedges.specs.Free.{Free}
+use Rattle.halfedges.proofs.Free.{free-more}
 use Rattle.halfedges.proofs.Fine.{nx-below}
 use Rattle.sides.specs.Side.{Twin}
 use Rattle.chains.specs.Chain.{from, Chained, walk}
@@ -293,17 +295,19 @@ module _ (c : List ℕ) (p : ℕ) (w₀ : List ℕ) (chains stamps marks v : ℕ
   pub turn-stamped : (w₁ : List ℕ) → w₁ ≡ walk (stampAt c stamps v) c v (length c) w → ((x : ℕ) → x < p → at w (stamps + x) ≤ v) → Stamped c p w₁ stamps v
   turn-stamped w₁ e low = stamped-of c p stamps v w w₁ (h .lists) low (turn-stamping w₁ e)
 
+cleared-free : {stamps p : ℕ} {w w₀ : List ℕ} (marks n : ℕ) → stamps + p ≤ marks → Cleared stamps p w w₀ → Free stamps (marks + n) w w₀
+cleared-free marks n l d = record { len = d .len; under = d .under; over = λ j m. d .over j (omega arith) }
+
 pub sides-end : (c : List ℕ) (p : ℕ) (w w₀ w′ : List ℕ) (chains stamps marks v : ℕ) → v ≡ p → Marking c p w₀ chains stamps marks → Cleared stamps p w w₀ → MarkedBelow c p stamps marks v w₀ w′ → SidesMarked c stamps marks w w′
 sides-end c p w w₀ w′ chains stamps marks v e h d m =
     let a = marked-all c p stamps marks w₀ w′ (h .lists) (h .closed) (h .twins) (subst (λ (n : ℕ). MarkedBelow c p stamps marks n w₀ w′) e m) in
-    record { len = a .len ∙ d .len; under = λ j l. a .under j l ∙ d .under j l; each = a .each }
+    record { each = a .each; rest = free-more (cleared-free marks (length c) (h .third) d) (a .rest) }
 
 pub across-end : (c : List ℕ) (p : ℕ) (w w₀ w′ : List ℕ) (chains stamps marks v : ℕ) → v ≡ p → Marking c p w₀ chains stamps marks → Cleared stamps p w w₀ → AcrossBelow c p stamps marks v w₀ w′ → AcrossBelow c p stamps marks p w w′
 across-end c p w w₀ w′ chains stamps marks v e h d m =
     let a = subst (λ (n : ℕ). AcrossBelow c p stamps marks n w₀ w′) e m in
     record {
-      len = a .len ∙ d .len;
-      under = λ j l. a .under j l ∙ d .under j l;
+      rest = free-more (cleared-free marks (length c) (h .third) d) (a .rest);
       low = a .low;
       done = λ k l b. a .done k l b ∙ ap (λ (t : ℕ). sides (triangles c) (at c k) (at c (pv t))) (d .under (p * 3 + length c + nx k) (let z = nx-below (length c) k (h .lists .thirds) l in omega (arith, h .first, h .second)));
     }

@@ -11,18 +11,18 @@ ghost use mathlib.Core.Bool.{true, false};
 ghost use Prim.Native.Nat.{ℕ, _+_, _*_, _%_, _<_, _≤_};
 ghost use lib.ListN.{length};
 ghost use Rattle.halfedges.specs.Place.{at, nx, pv};
-ghost use Rattle.chains.specs.Chain.{Chained, walk};
+ghost use Rattle.chains.specs.Chain.{walk};
 ghost use Rattle.chains.specs.Marks.{Lists, Marking, Walking, stampAt, Cleared};
 ghost use Rattle.chains.specs.Clear.{ChainedAt};
 ghost use Rattle.chains.specs.SideMarks.{Told, Strange, Stamped, Marked, MarkedOf, SidesMarked};
 ghost use Rattle.chains.specs.AcrossMarks.{AcrossOf, AcrossBelow};
-ghost use Rattle.chains.specs.LabelMarks.{Carried, Labelled};
+ghost use Rattle.chains.specs.LabelMarks.{Labelled, LabelsMarked};
 
 // Chains the places of each corner in rising order: its head is one more than its first place, and a place's link one more than the next. Heads from 0 on, links behind them.
 fn chain_places(corners: &[u32], points: usize, work: &mut [u32])
     requires { ⌜ Lists (now corners) points ⌝ }
     requires { ⌜ points + length (now corners) ≤ length (now work) ⌝ }
-    ensures { λ _. ⌜ Chained (now (corners .entry)) points (now (work .exit)) 0 ⌝ }
+    ensures { λ _. ⌜ ChainedAt (now (corners .entry)) points 0 (now (work .entry)) (now (work .exit)) ⌝ }
 {
     clear(work, points);
     let mut k = corners.len();
@@ -56,7 +56,7 @@ pub fn mark_labels(corners: &[u32], labels: &[u8], points: usize, work: &mut [u3
     requires { ⌜ Lists (now corners) points ⌝ }
     requires { ⌜ Labelled (now corners) (now labels) ⌝ }
     requires { ⌜ points * 8 ≤ length (now work) ⌝ }
-    ensures { λ _. ⌜ Carried (now (corners .entry)) (now (labels .entry)) points (now (work .exit)) 0 ⌝ }
+    ensures { λ _. ⌜ LabelsMarked (now (corners .entry)) (now (labels .entry)) points (now (work .entry)) (now (work .exit)) ⌝ }
 {
     clear(work, points * 8);
     let mut k: usize = 0;

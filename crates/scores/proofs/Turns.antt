@@ -23,6 +23,8 @@ use Rattle.surface.specs.Closed.{one}
 use Rattle.surface.specs.Edit.{place}
 use Rattle.surface.proofs.Flat.{place-triangles}
 use Rattle.halfedges.specs.Place.{nx, at}
+use Rattle.halfedges.specs.Free.{Free}
+use Rattle.halfedges.proofs.Free.{free-none, free-wider, free-more, free-set}
 use Rattle.halfedges.proofs.Fine.{nx-below}
 use Rattle.halfedges.proofs.Turns.{same-or}
 use Rattle.sorting.specs.Stable.{part}
@@ -96,11 +98,11 @@ module _ (ps : List Float) (c : List ℕ) (k x y m : ℕ) (h : Pointed ps c) (lo
 -- ---- a list that is filled word by word
 
 pub filled-none : (f : ℕ → ℕ) (base : ℕ) (w : List ℕ) → Filled f base w w 0
-filled-none f base w = record { under = λ j l. refl; each = λ i l. absurd (omega arith) }
+filled-none f base w = record { rest = free-none w; each = λ i l. absurd (omega arith) }
 
 pub filled-more : (f : ℕ → ℕ) (base : ℕ) (w w′ : List ℕ) (n x : ℕ) → base + n < length w′ → x ≡ f n → Filled f base w w′ n → Filled f base w (set w′ (base + n) x) (n + 1)
 filled-more f base w w′ n x room e h = record {
-  under = λ j l. getD-set-other w′ (base + n) j x 0 (λ q. omega arith) ∙ h .under j l;
+  rest = free-more (free-wider base (base + (n + 1)) (omega arith) (omega arith) (h .rest)) (free-set base (base + (n + 1)) (base + n) x w′ (omega arith) (omega arith));
   each = λ i l.
       ⊎-elim
       (λ (z : i ≡ n). ap (λ (m : ℕ). at (set w′ (base + n) x) (base + m)) z ∙ getD-set-same w′ (base + n) x 0 room ∙ e ∙ ap f (sym z))
@@ -108,8 +110,8 @@ filled-more f base w w′ n x room e h = record {
       (same-or i n);
 }
 
-pub filled-less : (f : ℕ → ℕ) (base : ℕ) (w w′ : List ℕ) (n m : ℕ) → m ≤ n → Filled f base w w′ n → Filled f base w w′ m
-filled-less f base w w′ n m l h = record { under = h .under; each = λ i k. h .each i (omega arith) }
+pub filled-same : (f : ℕ → ℕ) (base : ℕ) (w w′ : List ℕ) (n m : ℕ) → n ≡ m → Filled f base w w′ n → Filled f base w w′ m
+filled-same f base w w′ n m e h = subst (Filled f base w w′) e h
 
 -- ---- the lengths of the sides
 
@@ -128,6 +130,7 @@ pub record Measuring (ps : List Float) (c w w′ : List ℕ) (sides count keys i
   pub left : total ps s (map (sideAt c) (part w (sides + i) (sides + count - (sides + i)))) ≡ total ps plusZero (map (sideAt c) (part w sides count))
   pub lengths : (j : ℕ) → j < i → Kept w′ (keys + 2 * j) (lengthAt ps c w sides j)
   pub under : (j : ℕ) → j < keys → at w′ j ≡ at w j
+  pub over : (j : ℕ) → keys + 2 * count ≤ j → at w′ j ≡ at w j
 
 pub measure-starts : (ps : List Float) (c w : List ℕ) (sides count keys : ℕ) → Measuring ps c w w sides count keys 0 plusZero
 measure-starts ps c w sides count keys =
@@ -139,6 +142,7 @@ measure-starts ps c w sides count keys =
       left = ap₂ (λ (m n : ℕ). total ps plusZero (map (sideAt c) (part w m n))) z e;
       lengths = λ j l. absurd (omega arith);
       under = λ j l. refl;
+      over = λ j l. refl;
     }
 
 total-more : (ps : List Float) (s q : Float) (d : Side) (ds : List Side) → q ≡ squared ps (d .one) (d .two) → total ps (plus s q) ds ≡ total ps s (d ∷ ds)
@@ -176,6 +180,7 @@ module _ (ps : List Float) (c w w′ : List ℕ) (sides count keys i : ℕ) (s :
             (λ (y : j ≡ i → ⊥). put-keeps w′ (keys + 2 * i) q (keys + 2 * j) (lengthAt ps c w sides j) (inl (omega (arith, y))) (I .lengths j (omega (arith, y))))
             (same-or j i);
         under = λ j m. put-other w′ (keys + 2 * i) q j (λ y. omega arith) (λ y. omega arith) ∙ I .under j m;
+        over = λ j m. put-other w′ (keys + 2 * i) q j (λ y. omega arith) (λ y. omega arith) ∙ I .over j m;
       }
 
   pub measure-turned : i < count → (k : ℕ) (q : Float) (v : List ℕ) → k ≡ at w′ (sides + i) → q ≡ squared ps (at c k) (at c (nx k)) → v ≡ putAt w′ (keys + 2 * i) q → Measuring ps c w v sides count keys (i + 1) (plus s q)
@@ -188,7 +193,7 @@ module _ (ps : List Float) (c w w′ : List ℕ) (sides count keys i : ℕ) (s :
       record {
         sum = sym (ap (λ (x : List ℕ). total ps s (map (sideAt c) x)) (part-none w (sides + i) (sides + count) (omega arith))) ∙ I .left;
         lengths = λ j m. sym (key-there w′ keys count j m) ∙ kept-bits w′ (keys + 2 * j) (lengthAt ps c w sides j) (I .lengths j (omega arith));
-        under = I .under;
+        rest = record { len = I .size; under = I .under; over = I .over };
       }
 
 -- ---- the candidates
@@ -199,9 +204,10 @@ pub record Picking (f : ℕ → Bool) (w w′ : List ℕ) (count items n i : ℕ
   pub size : length w′ ≡ length w
   pub left : part w′ items n ++ chosen f (upFrom i (count - i)) ≡ chosen f (upFrom 0 count)
   pub under : (j : ℕ) → j < items → at w′ j ≡ at w j
+  pub over : (j : ℕ) → items + count ≤ j → at w′ j ≡ at w j
 
 pub pick-starts : (f : ℕ → Bool) (w : List ℕ) (count items : ℕ) → Picking f w w count items 0 0
-pick-starts f w count items = record { short = omega arith; few = omega arith; size = refl; left = ap (λ (n : ℕ). chosen f (upFrom 0 n)) (omega arith); under = λ j l. refl }
+pick-starts f w count items = record { short = omega arith; few = omega arith; size = refl; left = ap (λ (n : ℕ). chosen f (upFrom 0 n)) (omega arith); under = λ j l. refl; over = λ j l. refl }
 
 part-set : (w : List ℕ) (b n x : ℕ) → b + n < length w → part (set w (b + n) x) b (n + 1) ≡ part w b n ++ (x ∷ [])
 part-set w b n x h =
@@ -225,6 +231,7 @@ module _ (f : ℕ → Bool) (w w′ : List ℕ) (count items n i : ℕ) (room : 
     size = length-set w′ (items + n) i ∙ I .size;
     left = next b e ∙ I .left;
     under = λ j m. getD-set-other w′ (items + n) j i 0 (λ q. omega arith) ∙ I .under j m;
+    over = λ j m. let g = I .few in getD-set-other w′ (items + n) j i 0 (λ q. omega arith) ∙ I .over j m;
   }
     where
       go : (b : Bool) → n + boolByte b ≤ i + 1
@@ -255,7 +262,7 @@ module _ (f : ℕ → Bool) (w w′ : List ℕ) (count items n i : ℕ) (room : 
       record {
         list = sym (append-nil (part w′ items n)) ∙ ap (λ (m : ℕ). part w′ items n ++ chosen f (upFrom i m)) z ∙ I .left;
         few = omega arith;
-        under = I .under;
+        rest = record { len = I .size; under = I .under; over = I .over };
       }
 
 -- the test reads words below the items only

@@ -11,6 +11,7 @@ use Rattle.field.specs.Number.{plusZero}
 use Rattle.surface.specs.Triangle.{triangles}
 use Rattle.surface.specs.Edit.{place}
 use Rattle.halfedges.specs.Place.{nx, at}
+use Rattle.halfedges.specs.Free.{Free}
 use Rattle.sorting.specs.Stable.{part, keysIn}
 use Rattle.history.specs.History.{Pair}
 use Rattle.rounds.specs.Choices.{Side}
@@ -40,10 +41,10 @@ scoreAt s c ls i = score s (place (triangles c) i) (getD ls i 0)
 abbrev pub weakAt : Scene → List ℕ → List ℕ → ℕ → Bool
 weakAt s c ls i = Ieee.lt (scoreAt s c ls i) weakBelow
 
--- the first n words from base on are those of f, and the words below base are as they were
+-- the n words from base on are those of f, and no other word changes
 pub record Filled (f : ℕ → ℕ) (base : ℕ) (w w′ : List ℕ) (n : ℕ) : Type 0 where
-  pub under : (j : ℕ) → j < base → at w′ j ≡ at w j
   pub each : (i : ℕ) → i < n → at w′ (base + i) ≡ f i
+  pub rest : Free base (base + n) w w′
 
 -- the side that starts at a place
 abbrev pub sideAt : List ℕ → ℕ → Side
@@ -57,11 +58,11 @@ pub record Measurable (ps : List Float) (c w : List ℕ) (sides count base n : �
   pub room : base + n ≤ length w
   pub places : (i : ℕ) → i < count → at w (sides + i) < length c
 
--- after the sides are measured: their squared lengths as keys, and r is their sum
+-- after the sides are measured: their squared lengths as keys, and r is their sum; no other word changes
 pub record Measured (ps : List Float) (c w w′ : List ℕ) (sides count keys : ℕ) (r : Float) : Type 0 where
   pub sum : r ≡ total ps plusZero (map (sideAt c) (part w sides count))
   pub lengths : (i : ℕ) → i < count → keysIn w′ keys count i ≡ lengthBits ps (sideAt c (at w (sides + i)))
-  pub under : (j : ℕ) → j < keys → at w′ j ≡ at w j
+  pub rest : Free keys (keys + 2 * count) w w′
 
 -- the twins and the marks of the triangles stand in the words too
 pub record Marked (c w : List ℕ) (twins marks base : ℕ) : Type 0 where
@@ -78,8 +79,8 @@ unfoldable pub upFrom : ℕ → ℕ → List ℕ
 upFrom i zero = []
 upFrom i (suc d) = i ∷ upFrom (suc i) d
 
--- after the numbers of the sides that the test f picks are listed, in their order
+-- after the numbers of the sides that the test f picks are listed, in their order: r of them; of the `count` words from `items` on those behind them are free
 pub record Picked (f : ℕ → Bool) (w w′ : List ℕ) (count items r : ℕ) : Type 0 where
   pub list : part w′ items r ≡ chosen f (upFrom 0 count)
   pub few : r ≤ count
-  pub under : (j : ℕ) → j < items → at w′ j ≡ at w j
+  pub rest : Free items (items + count) w w′

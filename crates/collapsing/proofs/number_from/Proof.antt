@@ -4,7 +4,7 @@ use Prim.Native.Nat.{ℕ, _-_, _≤_}
 use mathlib.Core.Path.{_≡_, refl, _∙_}
 use lib.ListN.{length, length-set}
 use Rattle.scores.specs.Measures.{Filled}
-use Rattle.scores.proofs.Turns.{filled-none, filled-more, filled-less}
+use Rattle.scores.proofs.Turns.{filled-none, filled-more, filled-same}
 use Rattle.collapsing.proofs.number_from.Statement.{statement}
 use Rattle.collapsing.proofs.number_from.Tie as tie
 
@@ -44,7 +44,7 @@ same-length : tie.Need-same-length Inv-loop μ-loop
 same-length c = c .before .loop .inv .1
 
 returns : tie.Need-returns Inv-loop μ-loop
-returns c = filled-less _ _ _ _ _ _ (omega arith) (c .before .loop .inv .2)
+returns c = filled-same _ _ _ _ _ _ (omega arith) (c .before .loop .inv .2)
 
 pub number-from-spec : {M : Type 1} → statement M
 number-from-spec =

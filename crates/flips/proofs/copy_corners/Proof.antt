@@ -5,7 +5,7 @@ use mathlib.Core.Path.{_≡_, refl, _∙_}
 use lib.ListN.{length, length-set}
 use Rattle.halfedges.specs.Place.{at}
 use Rattle.scores.specs.Measures.{Filled}
-use Rattle.scores.proofs.Turns.{filled-none, filled-more, filled-less}
+use Rattle.scores.proofs.Turns.{filled-none, filled-more, filled-same}
 use Rattle.flips.proofs.copy_corners.Statement.{statement}
 use Rattle.flips.proofs.copy_corners.Tie as tie
 
@@ -51,7 +51,7 @@ same-length c =
 
 returns : tie.Need-returns Inv-loop μ-loop
 returns c =
-    filled-less _ _ _ _ _ _ (omega arith) (c .before .loop .inv .2)
+    filled-same _ _ _ _ _ _ (omega arith) (c .before .loop .inv .2)
 
 pub copy-corners-spec : {M : Type 1} → statement M
 copy-corners-spec =

@@ -26,7 +26,7 @@ same-length c = search needs
 returns : tie.Need-returns
 returns c =
     let a = (c .before .before .before .before .before .before) in
-    chained-at (a .args .corners .now) (a .args .points) (a .args .chains) (a .args .work .now) _ _ (a .pre .1) ((c .before .before) .chain-places .kept .1 .1 .0) ((c .before .before) .chain-places .ensures) refl
+    chained-at (a .args .corners .now) (a .args .points) (a .args .chains) (a .args .work .now) _ _ (a .pre .1) ((c .before .before) .chain-places .ensures) refl
 
 pub chain-at-spec : {M : Type 1} → statement M
 chain-at-spec =

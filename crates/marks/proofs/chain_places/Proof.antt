@@ -6,6 +6,8 @@ use native.Mathlib.Omega.{arith}
 use lib.ListN.{length, drop, set, length-set}
 use denote.Ref.{now}
 use Rattle.halfedges.specs.Place.{at}
+use Rattle.halfedges.specs.Free.{Free}
+use Rattle.halfedges.proofs.Free.{free-none, free-wider, free-more, free-put, free-cleared}
 use Rattle.chains.specs.Marks.{Lists}
 use Rattle.chains.proofs.Marks.{Chaining, chain-first, chain-last}
 use Rattle.marks.proofs.Turns.{zero-at, from-most, chain-turn′}
@@ -13,7 +15,7 @@ use Rattle.marks.proofs.chain_places.Statement.{statement}
 use Rattle.marks.proofs.chain_places.Tie as tie
 
 abbrev Inv-loop : tie.InvT-loop
-Inv-loop corners points work₀ k₀ work k = (k ≤ length corners) × (length work ≡ length work₀) × Chaining corners points work k
+Inv-loop corners points work₀ k₀ work k = (k ≤ length corners) × Free 0 (0 + points + length corners) work₀ work × Chaining corners points work k
 
 abbrev μ-loop : tie.MeasureT-loop
 μ-loop corners points work₀ k₀ work k = k
@@ -28,7 +30,7 @@ abbrev P : tie.At-loop Inv-loop μ-loop → ℕ
 P l = start l .args .points
 
 size : (l : tie.At-loop Inv-loop μ-loop) → P l + length (Cs l) ≤ length (l .loop .work)
-size l = omega (arith, l .loop .inv .1, start l .pre .1, l .before .before .before .clear .kept .0)
+size l = omega (arith, l .loop .inv .1 .len, start l .pre .1, l .before .before .before .clear .kept .0)
 
 v-low : (c : tie.After-word Inv-loop μ-loop) → c .word .result < P (c .before .before)
 v-low c = let l = c .before .before in omega (arith, c .word .ensures, start l .pre .0 .below (l .loop .k - 1) (omega (arith, l .loop .inv .0, c .before .loop-test .taken)))
@@ -37,7 +39,7 @@ clear-requires : tie.Need-clear-requires Inv-loop μ-loop
 clear-requires c κs = omega (arith, c .before .before .before .pre .1)
 
 loop-holds : tie.Need-loop-holds Inv-loop μ-loop
-loop-holds c = let d = c .before .before in let s = d .before .before .before .before in (omega arith, refl, chain-first (now (s .args .corners)) (s .args .points) (d .clear .last .0) (λ v l. zero-at (s .args .points) v (d .clear .last .0) (drop (s .args .points) (now (s .args .work))) (d .clear .ensures) l))
+loop-holds c = let d = c .before .before in let s = d .before .before .before .before in (omega arith, free-none (d .clear .last .0), chain-first (now (s .args .corners)) (s .args .points) (d .clear .last .0) (λ v l. zero-at (s .args .points) v (d .clear .last .0) (drop (s .args .points) (now (s .args .work))) (d .clear .ensures) l))
 
 sub-k : tie.Need-sub-k Inv-loop μ-loop
 sub-k c = omega arith
@@ -61,13 +63,13 @@ loop-less : tie.Need-loop-less Inv-loop μ-loop
 loop-less c = let b = c .before .before in let a = b .before .before .before .before in let w = a .before .before .before .before in omega (arith, w .before .loop-test .taken)
 
 loop-again : tie.Need-loop-again Inv-loop μ-loop
-loop-again c = let b = c .before .before in let a = b .before .before .before .before in let n = a .before .before in let w = n .before .before in let i = w .before in let l = i .before in (omega (arith, l .loop .inv .0), b .put2 .kept .0 ∙ a .put .kept .0 ∙ l .loop .inv .1, chain-turn′ (Cs l) (P l) (l .loop .work) (a .put .last .0) (b .put2 .last .0) (l .loop .k - 1) (w .word .result) (l .loop .k) (n .word2 .result) (start l .pre .0) (size l) (omega (arith, l .loop .inv .0, i .loop-test .taken)) (w .word .ensures) (omega (arith, i .loop-test .taken)) (n .word2 .ensures) (a .put .ensures) (b .put2 .ensures) (l .loop .inv .2))
+loop-again c = let b = c .before .before in let a = b .before .before .before .before in let n = a .before .before in let w = n .before .before in let i = w .before in let l = i .before in (omega (arith, l .loop .inv .0), free-put (w .word .result) (l .loop .k) (free-put (P l + (l .loop .k - 1)) (n .word2 .result) (l .loop .inv .1) (a .put .ensures) (omega arith) (omega (arith, l .loop .inv .0, i .loop-test .taken))) (b .put2 .ensures) (omega arith) (omega (arith, v-low w)), chain-turn′ (Cs l) (P l) (l .loop .work) (a .put .last .0) (b .put2 .last .0) (l .loop .k - 1) (w .word .result) (l .loop .k) (n .word2 .result) (start l .pre .0) (size l) (omega (arith, l .loop .inv .0, i .loop-test .taken)) (w .word .ensures) (omega (arith, i .loop-test .taken)) (n .word2 .ensures) (a .put .ensures) (b .put2 .ensures) (l .loop .inv .2))
 
 same-length : tie.Need-same-length Inv-loop μ-loop
-same-length c = let l = c .before in l .loop .inv .1 ∙ l .before .before .before .clear .kept .0
+same-length c = let l = c .before in l .loop .inv .1 .len ∙ l .before .before .before .clear .kept .0
 
 returns : tie.Need-returns Inv-loop μ-loop
-returns c = let l = c .before in let z : l .loop .k ≡ 0 = omega (arith, c .loop-test .left) in chain-last (Cs l) (P l) (l .loop .work) (subst (Chaining (Cs l) (P l) (l .loop .work)) z (l .loop .inv .2))
+returns c = let l = c .before in let z : l .loop .k ≡ 0 = omega (arith, c .loop-test .left) in record { chained = chain-last (Cs l) (P l) (l .loop .work) (subst (Chaining (Cs l) (P l) (l .loop .work)) z (l .loop .inv .2)); rest = free-more (free-wider 0 (0 + P l + length (Cs l)) (omega arith) (omega arith) (free-cleared (P l) (now (start l .args .work)) (l .before .before .before .clear .last .0) (omega (arith, start l .pre .1)) (l .before .before .before .clear .ensures))) (l .loop .inv .1) }
 
 pub chain-places-spec : {M : Type 1} → statement M
 chain-places-spec =

@@ -5,13 +5,15 @@ use mathlib.Core.List.{List}
 use native.Mathlib.Omega.{arith}
 use lib.ListN.{length, drop}
 use denote.Ref.{now}
+use Rattle.halfedges.specs.Free.{Free}
+use Rattle.halfedges.proofs.Free.{free-none, free-more, free-put, free-cleared}
 use Rattle.chains.proofs.LabelMarks.{Carrying, carry-first, carry-last}
 use Rattle.marks.proofs.Turns.{zero-at, carry-turn′}
 use Rattle.marks.proofs.mark_labels.Statement.{statement}
 use Rattle.marks.proofs.mark_labels.Tie as tie
 
 abbrev Inv-loop : tie.InvT-loop
-Inv-loop corners labels points work₀ k₀ work k = (length work ≡ length work₀) × (k ≤ length corners) × Carrying corners labels points work k
+Inv-loop corners labels points work₀ k₀ work k = Free 0 (points * 8) work₀ work × (k ≤ length corners) × Carrying corners labels points work k
 
 abbrev μ-loop : tie.MeasureT-loop
 μ-loop corners labels points work₀ k₀ work k = length corners - k
@@ -26,7 +28,7 @@ abbrev Ls : tie.At-loop Inv-loop μ-loop → List ℕ
 Ls l = now (start l .args .labels)
 
 size : (l : tie.At-loop Inv-loop μ-loop) → start l .args .points * 8 ≤ length (l .loop .work)
-size l = omega (arith, l .loop .inv .0, start l .pre .1 .1, l .before .before .before .clear .kept .0)
+size l = omega (arith, l .loop .inv .0 .len, start l .pre .1 .1, l .before .before .before .clear .kept .0)
 
 v-low : (c : tie.After-word Inv-loop μ-loop) → c .word .result < start (c .before .before) .args .points
 v-low c = let l = c .before .before in omega (arith, c .word .ensures, start l .pre .0 .below (l .loop .k) (c .before .loop-test .taken))
@@ -44,7 +46,7 @@ clear-requires : tie.Need-clear-requires Inv-loop μ-loop
 clear-requires c κs = let s = c .before .before .before .before in omega (arith, s .pre .1 .1)
 
 loop-holds : tie.Need-loop-holds Inv-loop μ-loop
-loop-holds c = let d = c .before .before in let s = d .before .before .before .before .before in (refl, omega arith, carry-first (now (s .args .corners)) (now (s .args .labels)) (s .args .points) (d .clear .last .0) (λ j l. zero-at (s .args .points * 8) j (d .clear .last .0) (drop (s .args .points * 8) (now (s .args .work))) (d .clear .ensures) l))
+loop-holds c = let d = c .before .before in let s = d .before .before .before .before .before in (free-none (d .clear .last .0), omega arith, carry-first (now (s .args .corners)) (now (s .args .labels)) (s .args .points) (d .clear .last .0) (λ j l. zero-at (s .args .points * 8) j (d .clear .last .0) (drop (s .args .points * 8) (now (s .args .work))) (d .clear .ensures) l))
 
 word-requires : tie.Need-word-requires Inv-loop μ-loop
 word-requires c κs = omega (arith, c .loop-test .taken)
@@ -71,13 +73,13 @@ loop-less : tie.Need-loop-less Inv-loop μ-loop
 loop-less c = let i = c .before .before .before .before .before .before .before in omega (arith, i .loop-test .taken)
 
 loop-again : tie.Need-loop-again Inv-loop μ-loop
-loop-again c = let d = c .before .before in let b = d .before .before in let w = b .before .before in let i = w .before in let l = i .before in (d .put .kept .0 ∙ l .loop .inv .0, omega (arith, i .loop-test .taken), carry-turn′ (Cs l) (Ls l) (start l .args .points) (l .loop .work) (d .put .last .0) (l .loop .k) (w .word .result) (b .small .result) (start l .pre .0) (start l .pre .1 .0) (i .loop-test .taken) (size l) (w .word .ensures) (b .small .ensures) (d .put .ensures) (l .loop .inv .2))
+loop-again c = let d = c .before .before in let b = d .before .before in let w = b .before .before in let i = w .before in let l = i .before in (free-put (w .word .result * 8 + b .small .result) 1 (l .loop .inv .0) (d .put .ensures) (omega arith) (omega (arith, v-low w, l-low b)), omega (arith, i .loop-test .taken), carry-turn′ (Cs l) (Ls l) (start l .args .points) (l .loop .work) (d .put .last .0) (l .loop .k) (w .word .result) (b .small .result) (start l .pre .0) (start l .pre .1 .0) (i .loop-test .taken) (size l) (w .word .ensures) (b .small .ensures) (d .put .ensures) (l .loop .inv .2))
 
 same-length : tie.Need-same-length Inv-loop μ-loop
-same-length c = let l = c .before in l .loop .inv .0 ∙ l .before .before .before .clear .kept .0
+same-length c = let l = c .before in l .loop .inv .0 .len ∙ l .before .before .before .clear .kept .0
 
 returns : tie.Need-returns Inv-loop μ-loop
-returns c = let l = c .before in let z : l .loop .k ≡ length (Cs l) = omega (arith, l .loop .inv .1, c .loop-test .left) in carry-last (Cs l) (Ls l) (start l .args .points) (l .loop .work) (start l .pre .0 .thirds) (start l .pre .1 .0 .size) (subst (Carrying (Cs l) (Ls l) (start l .args .points) (l .loop .work)) z (l .loop .inv .2))
+returns c = let l = c .before in let z : l .loop .k ≡ length (Cs l) = omega (arith, l .loop .inv .1, c .loop-test .left) in record { carries = carry-last (Cs l) (Ls l) (start l .args .points) (l .loop .work) (start l .pre .0 .thirds) (start l .pre .1 .0 .size) (subst (Carrying (Cs l) (Ls l) (start l .args .points) (l .loop .work)) z (l .loop .inv .2)); rest = free-more (free-cleared (start l .args .points * 8) (now (start l .args .work)) (l .before .before .before .clear .last .0) (start l .pre .1 .1) (l .before .before .before .clear .ensures)) (l .loop .inv .0) }
 
 pub mark-labels-spec : {M : Type 1} → statement M
 mark-labels-spec =

@@ -9,7 +9,7 @@ use Rattle.surface.specs.Closed.{one}
 use Rattle.oracle.specs.Number.{weakBelow}
 use Rattle.oracle.specs.Scene.{scene}
 use Rattle.scores.specs.Measures.{weakAt, Filled}
-use Rattle.scores.proofs.Turns.{byte-one, filled-none, filled-more, filled-less}
+use Rattle.scores.proofs.Turns.{byte-one, filled-none, filled-more, filled-same}
 use Rattle.scores.proofs.mark_weak.Statement.{statement}
 use Rattle.scores.proofs.mark_weak.Tie as tie
 
@@ -58,7 +58,7 @@ same-length c =
 
 returns : tie.Need-returns Inv-loop μ-loop
 returns c =
-    filled-less _ _ _ _ _ _ (omega arith) (c .before .loop .inv .2)
+    filled-same _ _ _ _ _ _ (omega arith) (c .before .loop .inv .2)
 
 pub mark-weak-spec : {M : Type 1} → statement M
 mark-weak-spec =

@@ -5,8 +5,6 @@ use Rattle.verdicts.proofs.Notes.{cleared, listed-as}
 use borrow.Author.Tests.{not-true, not-false}
 use mathlib.Core.Bool.{true, false}
 use mathlib.Core.Path.{_∙_}
-use mathlib.Core.List.{List}
-use Prim.Native.Nat.{ℕ}
 use denote.Ref.{now}
 use Rattle.surface.specs.Flat.{held}
 use Rattle.verdicts.specs.Notes.{StepsNoted}
