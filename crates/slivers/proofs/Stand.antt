@@ -149,6 +149,12 @@ module _ (c ls : List ℕ) (n p touched : ℕ) (h : Lists c p) (cl : Closed (tri
         ∙ ap (λ (x : List ℕ). at x j) (d .four) ∙ getD-set-other w₃ (touched + p * 2 + k / 3) j 1 0 (λ z. omega arith)
         ∙ ap (λ (x : List ℕ). at x j) (d .three) ∙ getD-set-other w₂ (touched + p + b) j a 0 (λ z. omega arith) ∙ d .two .under j m ∙ d .one .under j m
 
+    pub collapse-over : (j : ℕ) → touched + p * 2 + n ≤ j → at w₅ j ≡ at w j
+    collapse-over j m =
+        ap (λ (x : List ℕ). at x j) (d .five) ∙ getD-set-other w₄ (touched + p * 2 + t / 3) j 1 0 (λ z. omega (arith, t-low))
+        ∙ ap (λ (x : List ℕ). at x j) (d .four) ∙ getD-set-other w₃ (touched + p * 2 + k / 3) j 1 0 (λ z. omega (arith, k-low))
+        ∙ ap (λ (x : List ℕ). at x j) (d .three) ∙ getD-set-other w₂ (touched + p + b) j a 0 (λ z. omega (arith, below-ends .1)) ∙ d .two .over j (omega arith) ∙ d .one .over j (omega arith)
+
     -- the touched words
     touched-same : (x : ℕ) → x < p → at w₅ (touched + x) ≡ at w₂ (touched + x)
     touched-same x m =

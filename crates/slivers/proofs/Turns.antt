@@ -24,6 +24,7 @@ use Rattle.rounds.specs.Choices.{collapseStep}
 use Rattle.halfedges.specs.Place.{nx, pv, at, uses}
 use Rattle.halfedges.proofs.Whole.{closed-differing}
 use Rattle.sides.specs.Side.{Twin}
+use Rattle.halfedges.proofs.Free.{free-none, free-more}
 use Rattle.chains.specs.Chain.{from, walk}
 use Rattle.chains.proofs.Chain.{walk-here, spot, Onward, onward-start, onward-next, onward-less, Upto, upto-start, upto-next}
 use Rattle.chains.specs.Common.{lone}
@@ -41,7 +42,7 @@ use Rattle.slivers.proofs.Touching.{among, Touching, touching, names-am
 use Rattle.slivers.specs.Trials.{triOf, labelOf, falls, okAt, stepAt, lowered, Trials}
 use Rattle.slivers.proofs.Trials.{walk-least, places-valid, valid-places}
 use Rattle.slivers.specs.Stand.{pairOf, Stands}
-use Rattle.slivers.proofs.Stand.{Collapsed, collapse-len, collapse-under, stands-collapse}
+use Rattle.slivers.proofs.Stand.{Collapsed, collapse-len, collapse-under, collapse-over, stands-collapse}
 use Rattle.slivers.specs.Decide.{stepOf, mayAt, wayOf}
 use Rattle.slivers.proofs.Decide.{chosen, step-off, step-way, pass-more}
 use Rattle.slivers.specs.Ready.{Ready, Walks, Tried, Attempt, Way, collapsedWords, Advance, candidatesIn, Passing, Items}
@@ -342,8 +343,7 @@ module _ (s : Scene) (ps : List Float) (c ls : List ℕ) (p : ℕ) (w : List ℕ
 
   pub advance-none : mayAt c w touched k ≡ false → Advance s c ls p touched (sideAt c k) w w
   advance-none e = record {
-    len = refl;
-    under = λ j m. refl;
+    rest = free-none w;
     step = λ st g. subst (Stands c (length ls) p touched w) (sym (step-off c ls p touched (h .lists) (h .closed) k (at w (p * 3 + length c + k)) l tw (length ls) w st g s e)) g;
   }
 
@@ -355,8 +355,7 @@ module _ (s : Scene) (ps : List Float) (c ls : List ℕ) (p : ℕ) (w : List ℕ
 
     pub advance-zero : r ≡ 0 → Advance s c ls p touched (sideAt c k) w w
     advance-zero z = record {
-      len = refl;
-      under = λ j m. refl;
+      rest = free-none w;
       step = λ st g. subst (Stands c (length ls) p touched w) (sym (step-is st g ∙ ap (λ (n : ℕ). chosen n (collapseStep (pairOf c ls) st (at c k) (at c (nx k))) (collapseStep (pairOf c ls) st (at c (nx k)) (at c k)) st) z)) g;
     }
 
@@ -401,8 +400,11 @@ module _ (s : Scene) (ps : List Float) (c ls : List ℕ) (p : ℕ) (w : List ℕ
           let w₄ = set w₃ (touched + p * 2 + k / 3) 1 in
           let w₅ = collapsedWords c p touched x y k (at w (p * 3 + length c + k)) w in
           record {
-            len = ap length q ∙ collapse-len c ls (length ls) p touched (h .lists) (h .closed) size k (at w (p * 3 + length c + k)) l tw x y w w₁ w₂ w₃ w₄ w₅ (h .room) ends d;
-            under = λ j m. ap (λ (u : List ℕ). at u j) q ∙ collapse-under c ls (length ls) p touched (h .lists) (h .closed) size k (at w (p * 3 + length c + k)) l tw x y w w₁ w₂ w₃ w₄ w₅ (h .room) ends d j m;
+            rest = record {
+              len = ap length q ∙ collapse-len c ls (length ls) p touched (h .lists) (h .closed) size k (at w (p * 3 + length c + k)) l tw x y w w₁ w₂ w₃ w₄ w₅ (h .room) ends d;
+              under = λ j m. ap (λ (u : List ℕ). at u j) q ∙ collapse-under c ls (length ls) p touched (h .lists) (h .closed) size k (at w (p * 3 + length c + k)) l tw x y w w₁ w₂ w₃ w₄ w₅ (h .room) ends d j m;
+              over = λ j m. ap (λ (u : List ℕ). at u j) q ∙ collapse-over c ls (length ls) p touched (h .lists) (h .closed) size k (at w (p * 3 + length c + k)) l tw x y w w₁ w₂ w₃ w₄ w₅ (h .room) ends d j m;
+            };
             step = λ st g. subst (Stands c (length ls) p touched w′) (sym (f st g)) (subst (λ (u : List ℕ). Stands c (length ls) p touched u (collapseStep (pairOf c ls) st x y)) (sym q) (stands-collapse c ls (length ls) p touched (h .lists) (h .closed) size k (at w (p * 3 + length c + k)) l tw x y w w₁ w₂ w₃ w₄ w₅ (h .room) ends d st g (untouched st g)));
           }
 
@@ -428,13 +430,12 @@ walking-of h = record { lists = h .lists; chained = h .chained; order = h .secon
 
 pub passing-first : (s : Scene) (c ls : List ℕ) (p sides items touched : ℕ) (w : List ℕ) → Passing s c ls p sides items touched w w 0
 unfolding candidatesIn pass
-passing-first s c ls p sides items touched w = record { len = refl; under = λ i l. refl; state = λ st g. g }
+passing-first s c ls p sides items touched w = record { rest = free-none w; state = λ st g. g }
 
 pub passing-turn : (s : Scene) (c ls : List ℕ) (p sides items touched n j i k : ℕ) (w w′ w″ : List ℕ) → Items c w sides items n touched → j < n → i ≡ at w′ (items + j) → k ≡ at w′ (sides + i) → Passing s c ls p sides items touched w w′ j → Advance s c ls p touched (sideAt c k) w′ w″ → Passing s c ls p sides items touched w w″ (j + 1)
 unfolding candidatesIn
 passing-turn s c ls p sides items touched n j i k w w′ w″ it l ei ek g a = subst (λ (m : ℕ). Passing s c ls p sides items touched w w″ m) z (record {
-  len = a .len ∙ g .len;
-  under = λ q o. a .under q o ∙ g .under q o;
+  rest = free-more (g .rest) (a .rest);
   state = λ st q. subst (Stands c (length ls) p touched w″) (sym (pass-more true s (pairOf c ls) st (candidatesIn c w sides items j) (sideAt c (at w (sides + at w (items + j)))) ∙ ap (λ (x : ℕ). stepOf true s (pairOf c ls) (pass true s (pairOf c ls) st (candidatesIn c w sides items j)) (sideAt c x)) (sym k-is))) (a .step (pass true s (pairOf c ls) st (candidatesIn c w sides items j)) (g .state st q));
 })
   where
@@ -442,10 +443,10 @@ passing-turn s c ls p sides items touched n j i k w w′ w″ it l ei ek g a = s
     z = omega arith
 
     i-is : i ≡ at w (items + j)
-    i-is = ei ∙ g .under (items + j) (omega (arith, it .order))
+    i-is = ei ∙ g .rest .under (items + j) (omega (arith, it .order))
 
     k-is : k ≡ at w (sides + at w (items + j))
-    k-is = ek ∙ ap (λ (x : ℕ). at w′ (sides + x)) i-is ∙ g .under (sides + at w (items + j)) (it .inside j l)
+    k-is = ek ∙ ap (λ (x : ℕ). at w′ (sides + x)) i-is ∙ g .rest .under (sides + at w (items + j)) (it .inside j l)
 
 pub number-bits : T (not (nanBits binary64 9218868437227405312))
 unfolding nanBits

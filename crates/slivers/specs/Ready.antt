@@ -11,6 +11,7 @@ use Rattle.surface.specs.Closed.{one, Closed}
 use Rattle.rounds.specs.Pass.{State}
 use Rattle.rounds.specs.Choices.{Side}
 use Rattle.halfedges.specs.Place.{at, uses}
+use Rattle.halfedges.specs.Free.{Free}
 use Rattle.sides.specs.Side.{Twin}
 use Rattle.chains.specs.Chain.{walk, Chained}
 use Rattle.chains.specs.Common.{lone}
@@ -62,10 +63,9 @@ abbrev pub collapsedWords : List ℕ → ℕ → ℕ → ℕ → ℕ → ℕ →
 collapsedWords c p touched a b k t w =
     set (set (set (walk (touchAt c touched) c b (length c) (walk (touchAt c touched) c a (length c) w)) (touched + p + b) a) (touched + p * 2 + k / 3) 1) (touched + p * 2 + t / 3) 1
 
--- what a candidate leaves: the prepared words, and the state one step further
+-- what a candidate leaves: the state one step further, and no word changes but those of the state
 pub record Advance (s : Scene) (c ls : List ℕ) (p touched : ℕ) (d : Side) (w w′ : List ℕ) : Type 0 where
-  pub len : length w′ ≡ length w
-  pub under : (j : ℕ) → j < touched → at w′ j ≡ at w j
+  pub rest : Free touched (touched + p * 2 + length ls) w w′
   pub step : (st : State) → Stands c (length ls) p touched w st → Stands c (length ls) p touched w′ (stepOf true s (pairOf c ls) st d)
 
 -- the sides of the first j items
@@ -75,8 +75,7 @@ candidatesIn c w sides items (suc j) = candidatesIn c w sides items j ++ (sideAt
 
 -- what the first j items leave
 pub record Passing (s : Scene) (c ls : List ℕ) (p sides items touched : ℕ) (w w′ : List ℕ) (j : ℕ) : Type 0 where
-  pub len : length w′ ≡ length w
-  pub under : (i : ℕ) → i < touched → at w′ i ≡ at w i
+  pub rest : Free touched (touched + p * 2 + length ls) w w′
   pub state : (st : State) → Stands c (length ls) p touched w st → Stands c (length ls) p touched w′ (pass true s (pairOf c ls) st (candidatesIn c w sides items j))
 
 -- the items are numbers of sides, and those are places
