@@ -55,7 +55,8 @@ returns c =
 load-point-requires : tie.Need-load-point-requires
 load-point-requires c κs =
     let a = c .before .before .before .before .before .before .before .before .before .before in
-    fresh-at (a .args .points .now) (a .args .corners .now) (a .args .work .now) (a .args .numbers) (a .args .saved) (a .args .k) (a .args .met) _ _ (a .pre) (c .before .before .before .before .before .wide .ensures) (c .before .before .before .wide2 .ensures) (c .before .before .if1 .left) .0
+    let s = fresh-at (a .args .points .now) (a .args .corners .now) (a .args .work .now) (a .args .numbers) (a .args .saved) (a .args .k) (a .args .met) _ _ (a .pre) (c .before .before .before .before .before .wide .ensures) (c .before .before .before .wide2 .ensures) (c .before .before .if1 .left) .0 in
+    record { first = s .first; second = s .second; third = s .third; room = omega arith }
 
 cast-corners-2 : tie.Need-cast-corners-2
 cast-corners-2 c =
