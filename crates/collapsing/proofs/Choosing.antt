@@ -107,22 +107,23 @@ module _ (ps qs : List Float) (ns c ls : List ℕ) (p r : ℕ) (w : List ℕ) (h
       pub choose-marked : Marked c w₂ (p * 3 + length c) (weakFrom c p) (itemsFrom c p)
       choose-marked = record { twins-in = omega arith; marks-in = omega arith; twins-low = λ k l. twins₂ k l .low }
 
+      -- whatever was picked can be sorted
+      pub choose-sortable : (test : ℕ → Bool) (w₃ : List ℕ) (x : ℕ) → length w₃ ≡ length w₂ → Picked test w₂ w₃ r (itemsFrom c p) x → SortAsks w₃ (keysFrom c p) r (itemsFrom c p) (spareFrom c p) x
+      choose-sortable test w₃ x e₃ k =
+          let room = h .room in
+          let half = n .half in
+          let few = k .few in
+          record {
+            keyed = omega arith;
+            items-in = omega arith;
+            spare-in = omega arith;
+            apart = inl (omega arith);
+            keys-items = inl (omega arith);
+            keys-spare = inl (omega arith);
+          }
+
       module _ (w₃ : List ℕ) (x : ℕ) (e₃ : length w₃ ≡ length w₂)
           (k : Picked (λ (i : ℕ). picks ps c (p * 3 + length c) (weakFrom c p) (times shortPart (Ieee.div binary64 sum (counted r))) w₂ (at w₂ (sidesFrom c p + i))) w₂ w₃ r (itemsFrom c p) x) where
-        pub choose-sortable : SortAsks w₃ (keysFrom c p) r (itemsFrom c p) (spareFrom c p) x
-        choose-sortable =
-            let room = h .room in
-            let half = n .half in
-            let few = k .few in
-            record {
-              keyed = omega arith;
-              items-in = omega arith;
-              spare-in = omega arith;
-              apart = inl (omega arith);
-              keys-items = inl (omega arith);
-              keys-spare = inl (omega arith);
-            }
-
         limit-same : most ≡ limit ps (rising (triangles c) p)
         limit-same =
             let room = h .room in

@@ -84,7 +84,7 @@ add-sort c =
 sort-requires : tie.Need-sort-requires
 sort-requires c κs =
     let a = c .before .before .before .before .before .before .before .before .before .before .before .before .before .before .before .before .before .before .before .before in
-    choose-sortable (a .args .points .now) (a .args .coefficients .now) (a .args .powers .now) (a .args .corners .now) (a .args .labels .now) (a .args .heads) (a .args .count) (a .args .work .now) (a .pre .0) (a .pre .1) _ (c .before .before .before .before .before .before .before .before .before .before .before .before .mark-weak .kept .1 .1 .1 .1 .1 .1 .0) (c .before .before .before .before .before .before .before .before .before .before .before .before .mark-weak .ensures) _ _ (c .before .before .before .before .before .before .before .before .measure-sides .kept .1 .1 .1 .1 .1 .0) (c .before .before .before .before .before .before .before .before .measure-sides .ensures) _ _ (c .before .before .before .pick-candidates .kept .1 .1 .1 .1 .1 .1 .1 .1 .0) (c .before .before .before .pick-candidates .ensures)
+    choose-sortable (a .args .points .now) (a .args .coefficients .now) (a .args .powers .now) (a .args .corners .now) (a .args .labels .now) (a .args .heads) (a .args .count) (a .args .work .now) (a .pre .0) (a .pre .1) _ (c .before .before .before .before .before .before .before .before .before .before .before .before .mark-weak .kept .1 .1 .1 .1 .1 .1 .0) (c .before .before .before .before .before .before .before .before .before .before .before .before .mark-weak .ensures) _ _ (c .before .before .before .before .before .before .before .before .measure-sides .kept .1 .1 .1 .1 .1 .0) (c .before .before .before .before .before .before .before .before .measure-sides .ensures) _ _ _ (c .before .before .before .pick-candidates .kept .1 .1 .1 .1 .1 .1 .1 .1 .0) (c .before .before .before .pick-candidates .ensures)
 
 same-length : tie.Need-same-length
 same-length c = search needs

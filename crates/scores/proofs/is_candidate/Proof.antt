@@ -46,7 +46,8 @@ mul-result c =
 shared-slice-read-result : tie.Need-shared-slice-read-result
 shared-slice-read-result c =
     let a = c .before .before .before .before .before .before .before .before .before .before in
-    twin-room (a .args .corners .now) (a .args .work .now) (a .args .twins) (a .args .marks) (a .args .k) _ (a .pre .0 .thirds) (a .pre .1 .0) (a .pre .1 .1) (c .before .wide .ensures)
+    let r = twin-room (a .args .corners .now) (a .args .work .now) (a .args .twins) (a .args .marks) (a .args .k) _ (a .pre .0 .thirds) (a .pre .1 .0) (a .pre .1 .1) (c .before .wide .ensures) in
+    omega arith
 
 returns-2 : tie.Need-returns-2
 returns-2 c =
