@@ -1,4 +1,5 @@
 -- `slivers::collapse_side` meets its contract.
+use native.Mathlib.Omega.{arith}
 use denote.Ref.{now}
 use Rattle.slivers.proofs.Turns.{walking-kept, collapsed-is}
 use borrow.Author.Needs.{needs}
@@ -9,7 +10,7 @@ touch-around-requires : tie.Need-touch-around-requires
 touch-around-requires c κs = search needs
 
 touch-around-requires-2 : tie.Need-touch-around-requires-2
-touch-around-requires-2 c κs = let a = c .before .before .before in let s = a .before .before .before .before in (walking-kept (now (s .args .corners)) (s .args .points) (now (s .args .work)) (a .touch-around .last .1 .1 .1 .1 .1 .0) (s .args .chains) (s .args .touched) (s .args .keep) (s .pre .0) (a .touch-around .ensures), s .pre .1 .1)
+touch-around-requires-2 c κs = let a = c .before .before .before in let s = a .before .before .before .before in (walking-kept (now (s .args .corners)) (s .args .points) (now (s .args .work)) (a .touch-around .last .1 .1 .1 .1 .1 .0) (s .args .chains) (s .args .touched) (s .args .keep) (s .pre .0) (a .touch-around .ensures), omega arith)
 
 add-put : tie.Need-add-put
 add-put c = search needs
