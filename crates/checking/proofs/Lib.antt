@@ -1,5 +1,6 @@
--- The laws of `checking`: `Laws` says what an accepted surface has; `Sound` and `Turns` lead there, and with `Cases` serve the proofs of the functions.
+-- The laws of `checking`: `Laws` says what an accepted surface has, `Original` that the Rust's `validate` says the same; `Sound` and `Turns` lead there, and with `Cases` serve the proofs of the functions.
 pub mod Turns
 pub mod Sound
 pub mod Cases
 pub mod Laws
+pub mod Original

@@ -1,19 +1,17 @@
 -- A whole call: what each end leaves is what `EditRun` says.
-use Prim.Native.Nat.{ℕ, suc, _+_, _*_, _-_, _/_, _%_, _≤_, _<_}
+use Prim.Native.Nat.{ℕ, _+_, _*_, _-_, _/_, _%_, _≤_}
 use mathlib.Core.Path.{_≡_, refl, sym, _∙_, ap, ap₂, subst}
-use mathlib.Core.Bool.{Bool, true, false, _&&_}
-use mathlib.Core.List.{List, [], _∷_, _++_, append-nil}
+use mathlib.Core.Bool.{Bool, _&&_}
+use mathlib.Core.List.{List, [], _++_, append-nil}
 use native.Mathlib.Omega.{arith}
 use lib.Dec.{eqb}
 use lib.Ieee.{Float}
-use lib.ListN.{length, getD, take, drop, replicate, take-append-drop, length-replicate}
+use lib.ListN.{length, take, drop, replicate, take-append-drop, length-replicate}
 use lib.Seq.{take-all, drop-at, drop-length, length-take-le}
-use borrow.Author.Tests.{eqb-true, eq-eqb, ne-eqb}
+use borrow.Author.Tests.{eq-eqb, ne-eqb}
 use Rattle.surface.specs.Triangle.{triangles, corners}
-use Rattle.surface.specs.Closed.{step, keep, around, InUse}
-use Rattle.surface.specs.Euler.{Below}
 use Rattle.surface.specs.Flat.{held}
-use Rattle.surface.proofs.Flat.{length-triangles, corners-triangles, length-corners}
+use Rattle.surface.proofs.Flat.{length-triangles, corners-triangles, length-corners, used-below}
 use Rattle.surface.proofs.Held.{length-held}
 use Rattle.questions.specs.Questions.{needed as words-needed, ask, andThen, cleared, workAfter, Admits}
 use Rattle.questions.specs.Refusal.{refusalNumber, askedNumber}
@@ -33,21 +31,6 @@ use Rattle.editing.specs.Run.{Starting, first, Ran}
 use Rattle.editing.proofs.Held.{records-length}
 use Rattle.editing.specs.Edit.{editQuestions, answerOf, EditRun}
 use Rattle.editing.specs.declared.Outcome.the-variants.{Edited, Refused}
-
--- the corners in use of a list are numbers of the list
-pub used-below : (p : ℕ) (l : List ℕ) → ((k : ℕ) → k < length l → getD l k 0 < p) → Below p (triangles l)
-unfolding triangles around
-used-below p [] f v u = absurd (omega arith)
-used-below p (x ∷ []) f v u = absurd (omega arith)
-used-below p (x ∷ y ∷ []) f v u = absurd (omega arith)
-used-below p (x ∷ y ∷ z ∷ l) f v u = go (eqb x v) refl (eqb y v) refl (eqb z v) refl u (used-below p l (λ k q. f (suc (suc (suc k))) (omega arith)) v)
-  where
-    go : (a : Bool) → eqb x v ≡ a → (b : Bool) → eqb y v ≡ b → (c : Bool) → eqb z v ≡ c
-        → 0 < length (keep a (step y z) (keep b (step z x) (keep c (step x y) (around (triangles l) v)))) → (InUse (triangles l) v → v < p) → v < p
-    go true i b j c k u g = let e = eqb-true x v i in let q = f 0 (omega arith) in omega arith
-    go false i true j c k u g = let e = eqb-true y v j in let q = f 1 (omega arith) in omega arith
-    go false i false j true k u g = let e = eqb-true z v k in let q = f 2 (omega arith) in omega arith
-    go false i false j false k u g = g u
 
 -- a list that is n long, taken whole
 whole-pair : (l ls : List ℕ) → length l ≡ 3 * length ls → pairOf l ls (length ls) ≡ lentPair l ls

@@ -7,7 +7,7 @@ use native.Mathlib.Omega.{arith}
 use lib.Dec.{eqb}
 use lib.ListN.{length}
 use lib.Ieee.{Float}
-use Rattle.surface.proofs.Flat.{length-triangles}
+use Rattle.surface.proofs.Flat.{length-triangles, used-below}
 use Rattle.questions.specs.Questions.{ask, surfaceQuestions}
 use Rattle.questions.specs.Refusal.{askedNumber}
 use Rattle.questions.specs.Admitted.{Admitted}
@@ -22,7 +22,7 @@ use Rattle.editing.specs.Edit.{numberOf, editQuestions, answerOf, EditRu
 use Rattle.editing.specs.Demand3.{Demand3}
 use Rattle.editing.specs.declared.Outcome.{Outcome}
 use Rattle.editing.specs.declared.Outcome.the-variants.{Edited, Refused}
-use Rattle.editing.proofs.Call.{thirds, used-below}
+use Rattle.editing.proofs.Call.{thirds}
 
 -- an answer of two numbers is the history's, and no question was answered by "no"
 let-in : (q : Asked) (n k : ℕ) (h : History) → Edited n k ≡ answerOf q h → (q ≡ asked.Passed) × (n ≡ length (last h .tris)) × (k ≡ inForce h)

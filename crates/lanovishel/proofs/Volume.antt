@@ -13,7 +13,7 @@ use Rattle.volume.proofs.Volume.{report-laws-of}
 use Rattle.lanovishel.specs.Volume.{Answered}
 
 module _ (points : List Float) (corners labels work : List ℕ) where
-  accepted : (quality volume : Float) → 0 ≡ numberOf (validated points corners labels work)
+  pub accepted : (quality volume : Float) → 0 ≡ numberOf (validated points corners labels work)
       → quality ∷ volume ∷ [] ≡ qualityOf (validated points corners labels work) ∷ volumeOf (validated points corners labels work) ∷ []
       → validated points corners labels work ≡ Accepted quality volume
   accepted quality volume z e = go (validated points corners labels work) refl

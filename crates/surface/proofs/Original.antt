@@ -16,7 +16,7 @@ use Rattle.surface.specs.Triangle.{Tri, tri}
 use Rattle.surface.specs.Closed.{sides, Step, around, Leads, Ring, InUse, Paired, Manifold}
 use Rattle.surface.specs.Check.{unused, leftover}
 use Rattle.surface.specs.Euler.{Below}
-use Rattle.surface.specs.Original.{directed, equal?, sorted, distinct?, reversed?, find, walk, ring?, all, originalClosed}
+use Rattle.surface.specs.Original.{directed, equal?, sorted, distinct?, reversed?, find, walk, ring?, all, closedOriented, originalClosed}
 use Rattle.surface.proofs.Bools.{both, join}
 use Rattle.surface.proofs.Reading.{sides-cons}
 use Rattle.surface.proofs.Rings.{is-yes, is-no, froms, tos, froms-cons, tos-cons, mem-perm, mem-froms, length-perm, path, Balanced, follow}
@@ -156,7 +156,7 @@ ring-or-none (e ∷ l) f = f (omega arith)
 
 -- the original's test and the rules (b) and (c)
 pub original-iff : (ts : List Tri) (n : ℕ) → Below n ts → (originalClosed ts n ≡ true) ↔ Manifold ts
-unfolding originalClosed list
+unfolding originalClosed closedOriented list
 original-iff ts n below = (
   (λ h. let k = both (distinct? (list ts)) (reversed? (list ts) (list ts) && all n (λ v. ring? (around ts v))) h in
       let j = both (reversed? (list ts) (list ts)) (all n (λ v. ring? (around ts v))) (k .1) in
@@ -170,16 +170,16 @@ original-iff ts n below = (
 -- document 01's octahedron
 octahedron : originalClosed
     (tri 0 2 4 ∷ tri 2 1 4 ∷ tri 1 3 4 ∷ tri 3 0 4 ∷ tri 2 0 5 ∷ tri 1 2 5 ∷ tri 3 1 5 ∷ tri 0 3 5 ∷ []) 6 ≡ true
-unfolding originalClosed around
+unfolding originalClosed closedOriented around
 octahedron = refl
 
 -- two tetrahedra sharing one corner
 two-tetrahedra : originalClosed
     (tri 0 2 1 ∷ tri 0 1 3 ∷ tri 0 3 2 ∷ tri 1 2 3 ∷ tri 0 5 4 ∷ tri 0 4 6 ∷ tri 0 6 5 ∷ tri 4 5 6 ∷ []) 7 ≡ false
-unfolding originalClosed around
+unfolding originalClosed closedOriented around
 two-tetrahedra = refl
 
 -- rule (a) broken, (b) and (c) kept
 folded : originalClosed (tri 0 0 1 ∷ []) 2 ≡ true
-unfolding originalClosed around
+unfolding originalClosed closedOriented around
 folded = refl

@@ -36,7 +36,7 @@ distinct? [] = true
 distinct? (x ∷ []) = true
 distinct? (x ∷ y ∷ l) = not (equal? x y) && distinct? (y ∷ l)
 
--- `binary_search`: x is the pair in the middle, or is searched for below or above it; n bounds the number of turns
+-- `binary_search`: x is the pair in the middle, or is searched for below or above it; n bounds the number of turns. (In a sorted list any search finds just the pairs that occur: `found-there` of `proofs/Pairs`.)
 unfoldable pub found? : ℕ → Step → List Step → Bool
 found? zero x l = false
 found? (suc n) x [] = false
@@ -73,9 +73,15 @@ unfoldable pub all : ℕ → (ℕ → Bool) → Bool
 all zero f = true
 all (suc n) f = all n f && f n
 
--- `link[start[v]..start[v + 1]]` holds the steps around v, face by face: `around ts v`
+-- `closed_oriented_manifold`. Two parts stand here by what they come to: the sort, and the tables `start`, `fill` and `link`, which lay the steps of each corner together in the order of the faces,
+-- so that `link[start[v]..start[v + 1]]` is `around faces v`.
+unfoldable pub closedOriented : (faces : List Tri) (directed : List Step) (n : ℕ) → Bool
+unfolding insert sorted distinct? found? reversed? find walk ring? all
+closedOriented faces directed n =
+    let s = sorted directed in
+    distinct? s && (reversed? s s && all n (λ v. ring? (around faces v)))
+
+-- the same of the directed sides of the faces, with which `validate` calls it
 unfoldable pub originalClosed : List Tri → ℕ → Bool
-unfolding directed insert sorted distinct? found? reversed? find walk ring? all
-originalClosed ts n =
-    let s = sorted (directed ts) in
-    distinct? s && (reversed? s s && all n (λ v. ring? (around ts v)))
+unfolding directed closedOriented
+originalClosed ts n = closedOriented ts (directed ts) n
