@@ -1,7 +1,11 @@
 -- Page twelve of the user's manual: "the order of the triangles does not affect whether the surface closes". Definitions only; the theorem is `page-twelve` of `proofs/PageTwelve`; that it does not affect where a surface is open either is a law of `Finding`.
+-- What it comes to for the calls, which are lent corner numbers and labels, is `lanovishel/specs/PageTwelve`.
+use Prim.Native.Nat.{ℕ}
+use mathlib.Core.Path.{_≡_}
 use mathlib.Core.Logic.{_↔_}
 use mathlib.Core.List.{List, [], _∷_, List·Permᴰ}
-use Rattle.surface.specs.Triangle.{Tri, tri}
+use lib.ListN.{length}
+use Rattle.surface.specs.Triangle.{Tri, tri, triangles}
 use Rattle.surface.specs.Closed.{Paired, Ringed, Distinct, Closed}
 
 -- the same triangle, its turn begun one corner later
@@ -31,3 +35,29 @@ pub record PageTwelve (ts us : List Tri) : Type 0 where
   pub ringed : Ringed ts ↔ Ringed us
   pub distinct : Distinct ts ↔ Distinct us
   pub closed : Closed ts ↔ Closed us
+
+-- ---- the lists as they are lent
+
+-- a triangle with its label
+pub record Labelled : Type 0 where
+  pub shape : Tri
+  pub label : ℕ
+
+-- the triangles, each with its label, as far as there are both
+unfoldable pub labelled : List Tri → List ℕ → List Labelled
+labelled [] labels = []
+labelled (t ∷ ts) [] = []
+labelled (t ∷ ts) (l ∷ labels) = record { shape = t; label = l } ∷ labelled ts labels
+
+-- the second corners and labels list the triangles of the first in any order, each with its label
+pub record Reordered (corners labels corners′ labels′ : List ℕ) : Type 0 where
+  pub as-many-corners : length corners′ ≡ length corners
+  pub as-many-labels : length labels′ ≡ length labels
+  pub same : List·Permᴰ (labelled (triangles corners) labels) (labelled (triangles corners′) labels′)
+
+-- and begin the turn of each at any corner
+pub record Relabelled (corners labels corners′ labels′ : List ℕ) : Type 0 where
+  pub order : List ℕ
+  pub reordered : Reordered corners labels order labels′
+  pub as-many-corners : length corners′ ≡ length order
+  pub turns : EachTurns (triangles order) (triangles corners′)
