@@ -13,7 +13,7 @@ use borrow.Author.Tests.{eq-eqb, ne-eqb, eqb-true, le-leb}
 use Rattle.float.specs.Order.{lesser, isFinite}
 use Rattle.float.specs.Point.{plus, difference}
 use Rattle.float.specs.declared.Point.{Point}
-use Rattle.surface.specs.Triangle.{Tri, triangles}
+use Rattle.surface.specs.Triangle.{Tri, tri, triangles}
 use Rattle.surface.specs.Closed.{Step, step}
 use Rattle.surface.specs.Check.{every}
 use Rattle.surface.specs.Euler.{Below}
@@ -466,3 +466,18 @@ module _ (ps : List Float) (cs ls w : List ℕ) (lends : Lendable ps cs w) where
         volume = row (l .volume) (is r 6 refl) (equals n 8);
         panics = panicking both;
       }
+
+-- ---- small meshes
+
+-- a triangle and no point (DIFFERENCES), one without its label, and no triangle
+no-points : original [] (tri 0 0 0 ∷ []) (0 ∷ []) ≡ Panics
+unfolding original
+no-points = refl
+
+no-label : original [] (tri 0 0 0 ∷ []) [] ≡ Err InvalidArrays
+unfolding original
+no-label = refl
+
+nothing : original [] [] [] ≡ Ok (number 0) (number 0)
+unfolding original
+nothing = refl

@@ -1,5 +1,5 @@
 -- The Rust's `validate` of triangles.rs, line by line, and what it says beside ours. Definitions only; `validate-original` of `proofs/Original` proves `EqualsOriginal` of every call that is `Lendable`.
--- Machine widths are not modelled: lengths, and corners in usize, have no bound here. `dot` is (first + second) + third, as document 01 has it.
+-- Not modelled: machine widths (lengths, and corners in usize, have no bound here), and the zero from which the sum in `dot` starts, which document 01 leaves out: `dot` is (first + second) + third.
 use Prim.Native.Nat.{ℕ, _/_, _%_, _≤_, _<_}
 use mathlib.Core.Path.{_≡_}
 use mathlib.Core.Logic.{_⊎_, _↔_}

@@ -16,12 +16,14 @@ use Rattle.surface.specs.Triangle.{Tri, tri}
 use Rattle.surface.specs.Closed.{sides, Step, around, Leads, Ring, InUse, Paired, Manifold}
 use Rattle.surface.specs.Check.{unused, leftover}
 use Rattle.surface.specs.Euler.{Below}
+use Rattle.surface.specs.Links.{ringAt}
 use Rattle.surface.specs.Original.{directed, equal?, sorted, distinct?, reversed?, find, walk, ring?, all, closedOriented, originalClosed}
 use Rattle.surface.proofs.Bools.{both, join}
 use Rattle.surface.proofs.Reading.{sides-cons}
 use Rattle.surface.proofs.Rings.{is-yes, is-no, froms, tos, froms-cons, tos-cons, mem-perm, mem-froms, length-perm, path, Balanced, follow}
 use Rattle.surface.proofs.Steps.{froms-around}
 use Rattle.surface.proofs.Around.{ring-joined, balanced-around, nothing-left, joined-ring}
+use Rattle.surface.proofs.Links.{ring-around}
 use Rattle.surface.proofs.Pairs.{tally, tally-perm, sorted-perm, sorted-rising, distinct-once, once-distinct, reversed-back, back-reversed}
 
 -- the sides: the sorted list holds each as often as the triangles run along it
@@ -95,10 +97,10 @@ all-below (suc n) f e v h = let k = both (all n f) (f n) e in go (ℕ-discrete v
     go (yes q) k g = ap f q ∙ k
     go (no m) k g = g (omega arith)
 
-below-all : (n : ℕ) (f : ℕ → Bool) → ((v : ℕ) → f v ≡ true) → all n f ≡ true
+below-all : (n : ℕ) (f : ℕ → Bool) → ((v : ℕ) → v < n → f v ≡ true) → all n f ≡ true
 unfolding all
 below-all zero f h = refl
-below-all (suc n) f h = join _ _ (below-all n f h) (h n)
+below-all (suc n) f h = join _ _ (below-all n f (λ v l. h v (omega arith))) (h n (omega arith))
 
 -- (b) as the sorted list shows it: no side twice, and none without its reverse
 record Matched (ts : List Tri) : Type 0 where
@@ -158,28 +160,32 @@ ring-or-none (e ∷ l) f = f (omega arith)
 pub original-iff : (ts : List Tri) (n : ℕ) → Below n ts → (originalClosed ts n ≡ true) ↔ Manifold ts
 unfolding originalClosed closedOriented list
 original-iff ts n below = (
-  (λ h. let k = both (distinct? (list ts)) (reversed? (list ts) (list ts) && all n (λ v. ring? (around ts v))) h in
-      let j = both (reversed? (list ts) (list ts)) (all n (λ v. ring? (around ts v))) (k .1) in
+  (λ h. let k = both (distinct? (list ts)) (reversed? (list ts) (list ts) && all n (λ v. ring? (ringAt ts n v))) h in
+      let j = both (reversed? (list ts) (list ts)) (all n (λ v. ring? (ringAt ts n v))) (k .1) in
       let m = found-matched ts (k .0) (j .0) in
-      record { paired = matched-paired m; ringed = λ v u. (walked-ring m v u) .0 (all-below n (λ v. ring? (around ts v)) (j .1) v (below v u)) }),
+      record {
+        paired = matched-paired m;
+        ringed = λ v u. (walked-ring m v u) .0 (ap ring? (sym (ring-around ts n below v (below v u))) ∙ all-below n (λ v. ring? (ringAt ts n v)) (j .1) v (below v u));
+      }),
   λ r. let m = paired-matched (r .paired) in
       let f = matched-found ts m in
-      join _ _ (f .0) (join _ _ (f .1) (below-all n (λ v. ring? (around ts v)) (λ v. ring-or-none (around ts v) (λ u. (walked-ring m v u) .1 (r .ringed v u))))),
+      join _ _ (f .0)
+      (join _ _ (f .1) (below-all n (λ v. ring? (ringAt ts n v)) (λ v l. ap ring? (ring-around ts n below v l) ∙ ring-or-none (around ts v) (λ u. (walked-ring m v u) .1 (r .ringed v u))))),
 )
 
 -- document 01's octahedron
 octahedron : originalClosed
     (tri 0 2 4 ∷ tri 2 1 4 ∷ tri 1 3 4 ∷ tri 3 0 4 ∷ tri 2 0 5 ∷ tri 1 2 5 ∷ tri 3 1 5 ∷ tri 0 3 5 ∷ []) 6 ≡ true
-unfolding originalClosed closedOriented around
+unfolding originalClosed closedOriented
 octahedron = refl
 
 -- two tetrahedra sharing one corner
 two-tetrahedra : originalClosed
     (tri 0 2 1 ∷ tri 0 1 3 ∷ tri 0 3 2 ∷ tri 1 2 3 ∷ tri 0 5 4 ∷ tri 0 4 6 ∷ tri 0 6 5 ∷ tri 4 5 6 ∷ []) 7 ≡ false
-unfolding originalClosed closedOriented around
+unfolding originalClosed closedOriented
 two-tetrahedra = refl
 
 -- rule (a) broken, (b) and (c) kept
 folded : originalClosed (tri 0 0 1 ∷ []) 2 ≡ true
-unfolding originalClosed closedOriented around
+unfolding originalClosed closedOriented
 folded = refl

@@ -7,7 +7,8 @@ use mathlib.Core.Option.{Option, none, some}
 use lib.Dec.{eqb, ltb}
 use lib.ListN.{length, getD, take, drop}
 use Rattle.surface.specs.Triangle.{Tri}
-use Rattle.surface.specs.Closed.{Step, step, around}
+use Rattle.surface.specs.Closed.{Step, step}
+use Rattle.surface.specs.Links.{ringAt}
 
 -- `directed`: the directed sides, face by face
 unfoldable pub directed : List Tri → List Step
@@ -73,13 +74,12 @@ unfoldable pub all : ℕ → (ℕ → Bool) → Bool
 all zero f = true
 all (suc n) f = all n f && f n
 
--- `closed_oriented_manifold`. Two parts stand here by what they come to: the sort, and the tables `start`, `fill` and `link`, which lay the steps of each corner together in the order of the faces,
--- so that `link[start[v]..start[v + 1]]` is `around faces v`.
+-- `closed_oriented_manifold`
 unfoldable pub closedOriented : (faces : List Tri) (directed : List Step) (n : ℕ) → Bool
-unfolding insert sorted distinct? found? reversed? find walk ring? all
+unfolding insert sorted distinct? found? reversed? find walk ring? all ringAt
 closedOriented faces directed n =
     let s = sorted directed in
-    distinct? s && (reversed? s s && all n (λ v. ring? (around faces v)))
+    distinct? s && (reversed? s s && all n (λ v. ring? (ringAt faces n v)))
 
 -- the same of the directed sides of the faces, with which `validate` calls it
 unfoldable pub originalClosed : List Tri → ℕ → Bool
