@@ -1,4 +1,4 @@
--- Page twelve of the exported calls: the verdicts on the surface are alike (`Relabelling` of `checking` and of `questions`), and a call hands on its verdict's number and place.
+-- Page twelve of the exported calls: the verdicts on the surface are alike (`Relisting` of `checking` and of `questions`), and a call hands on its verdict's number and place.
 use Prim.Native.Nat.{ℕ, _/_, _%_}
 use native.Mathlib.Omega.{arith}
 use mathlib.Core.Path.{_≡_, refl, sym, ap, _∙_, subst}
@@ -8,14 +8,14 @@ use mathlib.Core.List.{List}
 use lib.Dec.{eqb, leb}
 use lib.ListN.{length}
 use lib.Ieee.{Float}
-use Rattle.surface.specs.PageTwelve.{Reordered, Relabelled}
+use Rattle.surface.specs.PageTwelve.{Reordered, RelistedLists}
 use Rattle.questions.specs.Questions.{ask, andThen, surfaceQuestions}
 use Rattle.questions.specs.declared.Asked.{Asked}
 use Rattle.questions.specs.declared.Asked.the-variants as asked
-use Rattle.questions.proofs.Relabelling.{surface-relabelled}
+use Rattle.questions.proofs.Relisting.{surface-relisted}
 use Rattle.checking.specs.Verdict.{numberOf, placeOf}
 use Rattle.checking.specs.Validate.{validated}
-use Rattle.checking.proofs.Relabelling.{Alike, equal, neither, reordered-alike, relabelled-alike}
+use Rattle.checking.proofs.Relisting.{Alike, equal, neither, reordered-alike, relisted-alike}
 use Rattle.history.specs.History.{History}
 use Rattle.history.specs.Lists.{historyOf}
 use Rattle.editing.specs.Edit as edit
@@ -47,11 +47,11 @@ check-ordered : (points : List Float) (corners labels corners′ labels′ : Lis
 check-ordered points corners labels corners′ labels′ words number number′ place place′ r a b =
     checked points corners labels corners′ labels′ words number number′ place place′ a b (reordered-alike points corners labels corners′ labels′ (a .work) (b .work) r (a .lent ∙ sym (b .lent)))
 
-check-turned : (points : List Float) (corners labels corners′ labels′ : List ℕ) (words number number′ : ℕ) (place place′ : List ℕ) → Relabelled corners labels corners′ labels′
+check-turned : (points : List Float) (corners labels corners′ labels′ : List ℕ) (words number number′ : ℕ) (place place′ : List ℕ) → RelistedLists corners labels corners′ labels′
     → CheckAnswers points corners labels words number place → CheckAnswers points corners′ labels′ words number′ place′ → (number ≡ 6 → ⊥) → (number′ ≡ 6 → ⊥) → SameRefusal NotClosed number place number′ place′
 check-turned points corners labels corners′ labels′ words number number′ place place′ r a b n n′ =
     checked points corners labels corners′ labels′ words number number′ place place′ a b
-    (relabelled-alike points corners labels corners′ labels′ (a .work) (b .work) r (a .lent ∙ sym (b .lent)) (λ e. n (a .call .answer ∙ e)) (λ e. n′ (b .call .answer ∙ e)))
+    (relisted-alike points corners labels corners′ labels′ (a .work) (b .work) r (a .lent ∙ sym (b .lent)) (λ e. n (a .call .answer ∙ e)) (λ e. n′ (b .call .answer ∙ e)))
 
 -- ---- editing
 
@@ -62,7 +62,7 @@ edited true h (inr s) = let i = s .0 in omega arith
 edited false h (inl s) = let i = s .1 in omega arith
 edited false h (inr s) = let i = s .0 in omega arith
 
-edit-ordered : (points : List Float) (corners labels corners′ labels′ : List ℕ) (words number number′ : ℕ) (place place′ : List ℕ) → Relabelled corners labels corners′ labels′
+edit-ordered : (points : List Float) (corners labels corners′ labels′ : List ℕ) (words number number′ : ℕ) (place place′ : List ℕ) → RelistedLists corners labels corners′ labels′
     → EditAnswers points corners labels words number place → EditAnswers points corners′ labels′ words number′ place′ → SameRefusal ForTheSurface number place number′ place′
 unfolding edit.editQuestions
 edit-ordered points corners labels corners′ labels′ words number number′ place place′ r a b = go (surfaceQuestions points corners labels (a .work)) refl
@@ -86,7 +86,7 @@ edit-ordered points corners labels corners′ labels′ words number number′ p
     h′ = historyOf corners′ labels′ (b .entries) (b .journal)
 
     same : surfaceQuestions points corners labels (a .work) ≡ surfaceQuestions points corners′ labels′ (b .work)
-    same = surface-relabelled r points (a .work) (b .work) (a .lent ∙ sym (b .lent))
+    same = surface-relisted r points (a .work) (b .work) (a .lent ∙ sym (b .lent))
 
     -- what each call comes to by the questions about the surface
     out : {q : Asked} → surfaceQuestions points corners labels (a .work) ≡ q → a .call .outcome ≡ edit.answerOf (andThen q later) h
@@ -114,7 +114,7 @@ improved true false m (inr s) = let i = s .0 in omega arith
 improved false q m (inl s) = let i = s .1 in omega arith
 improved false q m (inr s) = let i = s .0 in omega arith
 
-improve-ordered : (points : List Float) (corners labels corners′ labels′ : List ℕ) (words number number′ : ℕ) (place place′ : List ℕ) → Relabelled corners labels corners′ labels′
+improve-ordered : (points : List Float) (corners labels corners′ labels′ : List ℕ) (words number number′ : ℕ) (place place′ : List ℕ) → RelistedLists corners labels corners′ labels′
     → ImproveAnswers points corners labels words number place → ImproveAnswers points corners′ labels′ words number′ place′ → SameRefusal ForTheSurface number place number′ place′
 unfolding improve.improveQuestions
 improve-ordered points corners labels corners′ labels′ words number number′ place place′ r a b = go (surfaceQuestions points corners labels (a .work)) refl
@@ -132,7 +132,7 @@ improve-ordered points corners labels corners′ labels′ words number number�
     m′ = improve.improved points corners′ labels′ (b .coefficients) (b .powers) (b .rounds)
 
     same : surfaceQuestions points corners labels (a .work) ≡ surfaceQuestions points corners′ labels′ (b .work)
-    same = surface-relabelled r points (a .work) (b .work) (a .lent ∙ sym (b .lent))
+    same = surface-relisted r points (a .work) (b .work) (a .lent ∙ sym (b .lent))
 
     out : {q : Asked} → surfaceQuestions points corners labels (a .work) ≡ q → a .call .outcome ≡ improve.answerOf (andThen q later) m
     out e = a .call .run .answer ∙ ap (λ (q : Asked). improve.answerOf (andThen q later) m) e

@@ -6,7 +6,7 @@ use mathlib.Core.Logic.{_⊎_, _↔_}
 use mathlib.Core.List.{List}
 use lib.ListN.{length}
 use lib.Ieee.{Float}
-use Rattle.surface.specs.PageTwelve.{Reordered, Relabelled}
+use Rattle.surface.specs.PageTwelve.{Reordered, RelistedLists}
 use Rattle.lanovishel.specs.Check.{Checked}
 use Rattle.lanovishel.specs.Edit.{EditCall}
 use Rattle.lanovishel.specs.Improve.{ImproveCall}
@@ -80,19 +80,19 @@ pub record PageTwelveCalls : Type 0 where
       → SameRefusal NotClosed number place number′ place′
   -- The turn of each triangle may begin elsewhere, too. A quality may then be rounded otherwise, which question 6 can show: neither call answers 6.
   pub check-turned : (points : List Float) (corners labels corners′ labels′ : List ℕ) (words number number′ : ℕ) (place place′ : List ℕ)
-      → Relabelled corners labels corners′ labels′
+      → RelistedLists corners labels corners′ labels′
       → CheckAnswers points corners labels words number place
       → CheckAnswers points corners′ labels′ words number′ place′
       → (number ≡ 6 → ⊥) → (number′ ≡ 6 → ⊥)
       → SameRefusal NotClosed number place number′ place′
   -- Editing and improving compute with no coordinates before they let a surface in: every question about the surface is answered alike, wherever the turns begin.
   pub edit : (points : List Float) (corners labels corners′ labels′ : List ℕ) (words number number′ : ℕ) (place place′ : List ℕ)
-      → Relabelled corners labels corners′ labels′
+      → RelistedLists corners labels corners′ labels′
       → EditAnswers points corners labels words number place
       → EditAnswers points corners′ labels′ words number′ place′
       → SameRefusal ForTheSurface number place number′ place′
   pub improve : (points : List Float) (corners labels corners′ labels′ : List ℕ) (words number number′ : ℕ) (place place′ : List ℕ)
-      → Relabelled corners labels corners′ labels′
+      → RelistedLists corners labels corners′ labels′
       → ImproveAnswers points corners labels words number place
       → ImproveAnswers points corners′ labels′ words number′ place′
       → SameRefusal ForTheSurface number place number′ place′

@@ -39,24 +39,24 @@ pub record PageTwelve (ts us : List Tri) : Type 0 where
 -- ---- the lists as they are lent
 
 -- a triangle with its label
-pub record Labelled : Type 0 where
+pub record LabelledTri : Type 0 where
   pub shape : Tri
   pub label : ℕ
 
 -- the triangles, each with its label, as far as there are both
-unfoldable pub labelled : List Tri → List ℕ → List Labelled
-labelled [] labels = []
-labelled (t ∷ ts) [] = []
-labelled (t ∷ ts) (l ∷ labels) = record { shape = t; label = l } ∷ labelled ts labels
+unfoldable pub withLabels : List Tri → List ℕ → List LabelledTri
+withLabels [] labels = []
+withLabels (t ∷ ts) [] = []
+withLabels (t ∷ ts) (l ∷ labels) = record { shape = t; label = l } ∷ withLabels ts labels
 
 -- the second corners and labels list the triangles of the first in any order, each with its label
 pub record Reordered (corners labels corners′ labels′ : List ℕ) : Type 0 where
   pub as-many-corners : length corners′ ≡ length corners
   pub as-many-labels : length labels′ ≡ length labels
-  pub same : List·Permᴰ (labelled (triangles corners) labels) (labelled (triangles corners′) labels′)
+  pub same : List·Permᴰ (withLabels (triangles corners) labels) (withLabels (triangles corners′) labels′)
 
 -- and begin the turn of each at any corner
-pub record Relabelled (corners labels corners′ labels′ : List ℕ) : Type 0 where
+pub record RelistedLists (corners labels corners′ labels′ : List ℕ) : Type 0 where
   pub order : List ℕ
   pub reordered : Reordered corners labels order labels′
   pub as-many-corners : length corners′ ≡ length order

@@ -13,16 +13,16 @@ use Rattle.float.specs.Point.{plus}
 use Rattle.surface.specs.Triangle.{Tri, triangles}
 use Rattle.surface.specs.Check.{every}
 use Rattle.surface.specs.Finding.{finding}
-use Rattle.surface.specs.PageTwelve.{Reordered, Relabelled}
+use Rattle.surface.specs.PageTwelve.{Reordered, RelistedLists}
 use Rattle.surface.proofs.Bools.{or-turn, true-false}
-use Rattle.surface.proofs.Relabelling.{every-perm, triangles-reordered, reordered-relabelled, corners-relabelled, every-triangle}
+use Rattle.surface.proofs.Relisting.{every-perm, triangles-reordered, reordered-relisted, corners-relisted, every-triangle}
 use Rattle.questions.specs.Questions.{lentQuestions}
 use Rattle.questions.specs.Refusal.{onFinding}
 use Rattle.questions.specs.declared.Refusal.the-variants.{Question}
 use Rattle.questions.specs.declared.Asked.{Asked}
 use Rattle.questions.specs.declared.Asked.the-variants as asked
 use Rattle.questions.proofs.Counted.{lent-passed}
-use Rattle.questions.proofs.Relabelling.{found-same, lent-relabelled}
+use Rattle.questions.proofs.Relisting.{found-same, lent-relisted}
 use Rattle.quality.specs.Quality.{number, degenerate}
 use Rattle.checking.specs.Verdict.{numberOf}
 use Rattle.checking.specs.Validate.{outside, qualityAt, wedgeAt, next, measured, asWhole, validated}
@@ -85,9 +85,9 @@ whole-alike ts us e q v q′ v′ = go (onFinding (finding us)) refl
     go (asked.Refused why) p = equal (by-whole ts q v (e ∙ p) refl ∙ sym (by-whole us q′ v′ p refl))
     go asked.Passed p = below (by-whole ts q v (e ∙ p) refl) (by-whole us q′ v′ p refl) (closed-low (degenerate v) q v) (closed-low (degenerate v′) q′ v′)
 
-module _ (ps : List Float) (c ls c′ ls′ w w′ : List ℕ) (r : Relabelled c ls c′ ls′) (e : length w ≡ length w′) where
+module _ (ps : List Float) (c ls c′ ls′ w w′ : List ℕ) (r : RelistedLists c ls c′ ls′) (e : length w ≡ length w′) where
   lent′ : lentQuestions ps c ls w ≡ lentQuestions ps c′ ls′ w′
-  lent′ = lent-relabelled r ps w w′ e
+  lent′ = lent-relisted r ps w w′ e
 
   module _ (passed : lentQuestions ps c ls w ≡ asked.Passed) where
     threes : length c % 3 ≡ 0
@@ -99,14 +99,14 @@ module _ (ps : List Float) (c ls c′ ls′ w w′ : List ℕ) (r : Relabelled c
     empty : length c ≡ 0 → Alike (validated ps c ls w) (validated ps c′ ls′ w′)
     empty z =
         equal
-        (by-first ps c ls w passed ∙ sym (no-triangles ps c z) ∙ no-triangles ps c′ (corners-relabelled r ∙ z) ∙ sym (by-first ps c′ ls′ w′ (sym lent′ ∙ passed)))
+        (by-first ps c ls w passed ∙ sym (no-triangles ps c z) ∙ no-triangles ps c′ (corners-relisted r ∙ z) ∙ sym (by-first ps c′ ls′ w′ (sym lent′ ∙ passed)))
 
     module _ (some : length c ≡ 0 → ⊥) where
       reached : validated ps c ls w ≡ asWhole (triangles c) (measured ps c)
       reached = by-first ps c ls w passed ∙ sym (some-triangles ps c some)
 
       reached′ : validated ps c′ ls′ w′ ≡ asWhole (triangles c′) (measured ps c′)
-      reached′ = by-first ps c′ ls′ w′ (sym lent′ ∙ passed) ∙ sym (some-triangles ps c′ (λ z. some (sym (corners-relabelled r) ∙ z)))
+      reached′ = by-first ps c′ ls′ w′ (sym lent′ ∙ passed) ∙ sym (some-triangles ps c′ (λ z. some (sym (corners-relisted r) ∙ z)))
 
       walked : Walk ps (number 1) (number 0) (triangles c)
       walked = walk ps (number 1) (number 0) (triangles c)
@@ -163,8 +163,8 @@ module _ (ps : List Float) (c ls c′ ls′ w w′ : List ℕ) (r : Relabelled c
       go asked.Passed p = f p
       go (asked.Refused why) p = equal (by-first ps c ls w p ∙ sym (by-first ps c′ ls′ w′ (sym lent′ ∙ p)))
 
-  pub relabelled-alike : (numberOf (validated ps c ls w) ≡ 6 → ⊥) → (numberOf (validated ps c′ ls′ w′) ≡ 6 → ⊥) → Alike (validated ps c ls w) (validated ps c′ ls′ w′)
-  relabelled-alike n n′ = cases (λ p. go p (ℕ-discrete (length c) 0))
+  pub relisted-alike : (numberOf (validated ps c ls w) ≡ 6 → ⊥) → (numberOf (validated ps c′ ls′ w′) ≡ 6 → ⊥) → Alike (validated ps c ls w) (validated ps c′ ls′ w′)
+  relisted-alike n n′ = cases (λ p. go p (ℕ-discrete (length c) 0))
     where
       go : lentQuestions ps c ls w ≡ asked.Passed → Dec (length c ≡ 0) → Alike (validated ps c ls w) (validated ps c′ ls′ w′)
       go p (yes z) = empty p z
@@ -173,8 +173,8 @@ module _ (ps : List Float) (c ls c′ ls′ w w′ : List ℕ) (r : Relabelled c
 pub reordered-alike : (ps : List Float) (c ls c′ ls′ w w′ : List ℕ) → Reordered c ls c′ ls′ → length w ≡ length w′ → Alike (validated ps c ls w) (validated ps c′ ls′ w′)
 reordered-alike ps c ls c′ ls′ w w′ r e = cases ps c ls c′ ls′ w w′ k e (λ p. go p (ℕ-discrete (length c) 0))
   where
-    k : Relabelled c ls c′ ls′
-    k = reordered-relabelled r
+    k : RelistedLists c ls c′ ls′
+    k = reordered-relisted r
 
     go : lentQuestions ps c ls w ≡ asked.Passed → Dec (length c ≡ 0) → Alike (validated ps c ls w) (validated ps c′ ls′ w′)
     go p (yes z) = empty ps c ls c′ ls′ w w′ k e p z

@@ -9,7 +9,7 @@ use lib.ListN.{length}
 use Rattle.surface.specs.Triangle.{Tri, triangles, names}
 use Rattle.surface.specs.Check.{every}
 use Rattle.surface.specs.Label.{carries}
-use Rattle.surface.specs.PageTwelve.{turned, Turns, first, second, third, EachTurns, none, more, Relisted, Labelled, labelled, Reordered, Relabelled}
+use Rattle.surface.specs.PageTwelve.{turned, Turns, first, second, third, EachTurns, none, more, Relisted, LabelledTri, withLabels, Reordered, RelistedLists}
 use Rattle.surface.proofs.Bools.{or-turn}
 use Rattle.surface.proofs.Flat.{length-triangles}
 
@@ -67,30 +67,30 @@ and-turn false false r = refl
 
 -- ---- triangles and labels apart
 
-shapes : (ts : List Tri) (ls : List ℕ) → length ts ≡ length ls → map (λ (x : Labelled). x .shape) (labelled ts ls) ≡ ts
-unfolding labelled
+shapes : (ts : List Tri) (ls : List ℕ) → length ts ≡ length ls → map (λ (x : LabelledTri). x .shape) (withLabels ts ls) ≡ ts
+unfolding withLabels
 shapes [] ls e = refl
 shapes (t ∷ ts) [] e = absurd (omega arith)
 shapes (t ∷ ts) (l ∷ ls) e = ap (λ (k : List Tri). t ∷ k) (shapes ts ls (omega arith))
 
-labels : (ts : List Tri) (ls : List ℕ) → length ts ≡ length ls → map (λ (x : Labelled). x .label) (labelled ts ls) ≡ ls
-unfolding labelled
+labels : (ts : List Tri) (ls : List ℕ) → length ts ≡ length ls → map (λ (x : LabelledTri). x .label) (withLabels ts ls) ≡ ls
+unfolding withLabels
 labels [] [] e = refl
 labels [] (l ∷ ls) e = absurd (omega arith)
 labels (t ∷ ts) [] e = absurd (omega arith)
 labels (t ∷ ts) (l ∷ ls) e = ap (λ (k : List ℕ). l ∷ k) (labels ts ls (omega arith))
 
 -- the labels of a corner
-lacks : ℕ → ℕ → Labelled → Bool
+lacks : ℕ → ℕ → LabelledTri → Bool
 lacks v l x = not (names (x .shape) v && eqb (x .label) l)
 
-carried : (ts : List Tri) (ls : List ℕ) (v l : ℕ) → carries ts ls v l ≡ not (every (lacks v l) (labelled ts ls))
-unfolding carries labelled every lacks
+carried : (ts : List Tri) (ls : List ℕ) (v l : ℕ) → carries ts ls v l ≡ not (every (lacks v l) (withLabels ts ls))
+unfolding carries withLabels every lacks
 carried [] ls v l = refl
 carried (t ∷ ts) [] v l = refl
 carried (t ∷ ts) (m ∷ ls) v l = go (names t v && eqb m l) (carried ts ls v l)
   where
-    go : (b : Bool) → carries ts ls v l ≡ not (every (lacks v l) (labelled ts ls)) → (b || carries ts ls v l) ≡ not (not b && every (lacks v l) (labelled ts ls))
+    go : (b : Bool) → carries ts ls v l ≡ not (every (lacks v l) (withLabels ts ls)) → (b || carries ts ls v l) ≡ not (not b && every (lacks v l) (withLabels ts ls))
     go true h = refl
     go false h = h
 
@@ -119,29 +119,29 @@ module _ {c ls c′ ls′ : List ℕ} (r : Reordered c ls c′ ls′) where
     pub triangles-reordered : List·Permᴰ (triangles c) (triangles c′)
     triangles-reordered =
         subst (λ (k : List Tri). List·Permᴰ k (triangles c′)) (shapes (triangles c) ls as-many)
-        (subst (λ (k : List Tri). List·Permᴰ (map (λ (x : Labelled). x .shape) (labelled (triangles c) ls)) k) (shapes (triangles c′) ls′ as-many′) (Permᴰ·map (λ (x : Labelled). x .shape) (r .same)))
+        (subst (λ (k : List Tri). List·Permᴰ (map (λ (x : LabelledTri). x .shape) (withLabels (triangles c) ls)) k) (shapes (triangles c′) ls′ as-many′) (Permᴰ·map (λ (x : LabelledTri). x .shape) (r .same)))
 
     pub labels-reordered : List·Permᴰ ls ls′
     labels-reordered =
         subst (λ (k : List ℕ). List·Permᴰ k ls′) (labels (triangles c) ls as-many)
-        (subst (λ (k : List ℕ). List·Permᴰ (map (λ (x : Labelled). x .label) (labelled (triangles c) ls)) k) (labels (triangles c′) ls′ as-many′) (Permᴰ·map (λ (x : Labelled). x .label) (r .same)))
+        (subst (λ (k : List ℕ). List·Permᴰ (map (λ (x : LabelledTri). x .label) (withLabels (triangles c) ls)) k) (labels (triangles c′) ls′ as-many′) (Permᴰ·map (λ (x : LabelledTri). x .label) (r .same)))
 
 each-refl : (ts : List Tri) → EachTurns ts ts
 each-refl [] = none
 each-refl (t ∷ ts) = more first (each-refl ts)
 
 -- no turn is begun elsewhere
-pub reordered-relabelled : {c ls c′ ls′ : List ℕ} → Reordered c ls c′ ls′ → Relabelled c ls c′ ls′
-reordered-relabelled {c′ = c′} r = record { order = c′; reordered = r; as-many-corners = refl; turns = each-refl (triangles c′) }
+pub reordered-relisted : {c ls c′ ls′ : List ℕ} → Reordered c ls c′ ls′ → RelistedLists c ls c′ ls′
+reordered-relisted {c′ = c′} r = record { order = c′; reordered = r; as-many-corners = refl; turns = each-refl (triangles c′) }
 
--- ---- relabelled
+-- ---- relisted
 
-module _ {c ls c′ ls′ : List ℕ} (r : Relabelled c ls c′ ls′) where
-  pub corners-relabelled : length c′ ≡ length c
-  corners-relabelled = r .as-many-corners ∙ r .reordered .as-many-corners
+module _ {c ls c′ ls′ : List ℕ} (r : RelistedLists c ls c′ ls′) where
+  pub corners-relisted : length c′ ≡ length c
+  corners-relisted = r .as-many-corners ∙ r .reordered .as-many-corners
 
-  pub carries-relabelled : (v l : ℕ) → carries (triangles c) ls v l ≡ carries (triangles c′) ls′ v l
-  carries-relabelled v l = carries-reordered (r .reordered) v l ∙ carries-each (r .turns) ls′ v l
+  pub carries-relisted : (v l : ℕ) → carries (triangles c) ls v l ≡ carries (triangles c′) ls′ v l
+  carries-relisted v l = carries-reordered (r .reordered) v l ∙ carries-each (r .turns) ls′ v l
 
   module _ (threes : length c % 3 ≡ 0) (each : length ls ≡ length c / 3) where
     pub relisted : Relisted (triangles c) (triangles c′)
@@ -155,7 +155,7 @@ module _ {c ls c′ ls′ : List ℕ} (r : Relabelled c ls c′ ls′) where
     every-number p =
         every-corner p (length c / 3) c (omega arith)
         ∙ every-triangle (threeOf p) (λ t. and-turn (p (t .a)) (p (t .b)) (p (t .c)))
-        ∙ sym (every-corner p (length c / 3) c′ (omega (arith, corners-relabelled)))
+        ∙ sym (every-corner p (length c / 3) c′ (omega (arith, corners-relisted)))
 
     pub every-label : (p : ℕ → Bool) → every p ls ≡ every p ls′
     every-label p = every-perm p (labels-reordered (r .reordered) threes each)
