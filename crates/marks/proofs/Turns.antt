@@ -93,23 +93,24 @@ module _ (c : List ℕ) (p : ℕ) (w : List ℕ) (chains stamps v : ℕ) (h : Wa
   pub walks-len : (q : ℕ) (w′ : List ℕ) → Walks c v q w w′ stamps → length w′ ≡ length w
   walks-len q w′ s = walks-state q w′ s .len
 
-  pub walks-link : (q k : ℕ) (w′ w″ : List ℕ) (x : ℕ) → q ≡ suc k → x ≡ at c (nx k) → Walks c v q w w′ stamps → w″ ≡ set w′ (stamps + x) (v + 1) → (r : ℕ) → r ≡ at w″ (chains + p + k) → r ≡ from c v (suc k) (length c - suc k)
-  walks-link q k w′ w″ x e f s g r i =
+  -- whatever the stamp is, the chain is kept
+  pub walks-link : (q k : ℕ) (w′ w″ : List ℕ) (x m : ℕ) → q ≡ suc k → x ≡ at c (nx k) → Walks c v q w w′ stamps → w″ ≡ set w′ (stamps + x) m → (r : ℕ) → r ≡ at w″ (chains + p + k) → r ≡ from c v (suc k) (length c - suc k)
+  walks-link q k w′ w″ x m e f s g r i =
       let a = s .onward .names k e in
       let low = a .1 in
       let n = h .order in
-      i ∙ ap (λ (y : List ℕ). at y (chains + p + k)) g ∙ getD-set-other w′ (stamps + x) (chains + p + k) (v + 1) 0 (λ z. omega arith)
+      i ∙ ap (λ (y : List ℕ). at y (chains + p + k)) g ∙ getD-set-other w′ (stamps + x) (chains + p + k) m 0 (λ z. omega arith)
       ∙ walks-state q w′ s .under (chains + p + k) (omega arith) ∙ h .chained .links k low ∙ ap (λ (y : ℕ). from c y (suc k) (length c - suc k)) (a .0)
 
   pub walks-next : (q k : ℕ) (w′ w″ : List ℕ) (x r : ℕ) → q ≡ suc k → x ≡ at c (nx k) → Walks c v q w w′ stamps → w″ ≡ set w′ (stamps + x) (v + 1) → r ≡ at w″ (chains + p + k) → Walks c v r w w″ stamps
   walks-next q k w′ w″ x r e f s g i =
-      let j = walks-link q k w′ w″ x e f s g r i in
+      let j = walks-link q k w′ w″ x (v + 1) e f s g r i in
       let o = onward-next (stampAt c stamps v) c v w q r k e (s .onward) j in
       let z : walk (stampAt c stamps v) c v k w ≡ w′ = ap (λ (n : ℕ). walk (stampAt c stamps v) c v (spot (length c) n) w) (sym e) ∙ sym (s .is) in
       record { onward = o .0; is = g ∙ ap (λ (y : ℕ). set w′ (stamps + y) (v + 1)) f ∙ ap (stampAt c stamps v k) (sym z) ∙ sym (o .1) }
 
-  pub walks-less : (q k : ℕ) (w′ w″ : List ℕ) (x r : ℕ) → q ≡ suc k → x ≡ at c (nx k) → Walks c v q w w′ stamps → w″ ≡ set w′ (stamps + x) (v + 1) → r ≡ at w″ (chains + p + k) → length c - spot (length c) r < length c - spot (length c) q
-  walks-less q k w′ w″ x r e f s g i = onward-less c v q r k e (s .onward) (walks-link q k w′ w″ x e f s g r i)
+  pub walks-less : (q k : ℕ) (w′ w″ : List ℕ) (x r m : ℕ) → q ≡ suc k → x ≡ at c (nx k) → Walks c v q w w′ stamps → w″ ≡ set w′ (stamps + x) m → r ≡ at w″ (chains + p + k) → length c - spot (length c) r < length c - spot (length c) q
+  walks-less q k w′ w″ x r m e f s g i = onward-less c v q r k e (s .onward) (walks-link q k w′ w″ x m e f s g r i)
 
   -- a walk that only reads
   pub read-link : (q k r : ℕ) → q ≡ suc k → Onward c v q → r ≡ at w (chains + p + k) → r ≡ from c v (suc k) (length c - suc k)

@@ -78,7 +78,7 @@ word-requires-2 : tie.Need-word-requires-2 Inv-loop μ-loop
 word-requires-2 c κs = let a = c .before .before .before in let i = a .before .before .before in let l = i .before in omega (arith, handed l .order, handed l .room, k-low i, a .put .kept .0, len l)
 
 loop-less : tie.Need-loop-less Inv-loop μ-loop
-loop-less c = let d = c .before .before .before .before in let a = d .before .before in let i = a .before in let l = i .before in walks-less (Cs l) (start l .args .points) (W₀ l) (start l .args .chains) (start l .args .stamps) (start l .args .v) (handed l) (start l .pre .1) (l .loop .q) (l .loop .q - 1) (l .loop .work) (d .put .last .0) (a .ahead .result) (c .word2 .result) (k-is i) (a .ahead .ensures) (l .loop .inv) (d .put .ensures) (c .word2 .ensures)
+loop-less c = let d = c .before .before .before .before in let a = d .before .before in let i = a .before in let l = i .before in walks-less (Cs l) (start l .args .points) (W₀ l) (start l .args .chains) (start l .args .stamps) (start l .args .v) (handed l) (start l .pre .1) (l .loop .q) (l .loop .q - 1) (l .loop .work) (d .put .last .0) (a .ahead .result) (c .word2 .result) _ (k-is i) (a .ahead .ensures) (l .loop .inv) (d .put .ensures) (c .word2 .ensures)
 
 loop-again : tie.Need-loop-again Inv-loop μ-loop
 loop-again c = let d = c .before .before .before .before in let a = d .before .before in let i = a .before in let l = i .before in walks-next (Cs l) (start l .args .points) (W₀ l) (start l .args .chains) (start l .args .stamps) (start l .args .v) (handed l) (start l .pre .1) (l .loop .q) (l .loop .q - 1) (l .loop .work) (d .put .last .0) (a .ahead .result) (c .word2 .result) (k-is i) (a .ahead .ensures) (l .loop .inv) (d .put .ensures) (c .word2 .ensures)
