@@ -14,7 +14,6 @@ use Rattle.halfedges.proofs.Turns.{same-or}
 use Rattle.sides.specs.Side.{Twin, twins-from, sides-from, sorted}
 use Rattle.sides.specs.Whole.{Listed}
 use Rattle.sides.proofs.Order.{among-at}
-use Rattle.sides.proofs.Whole.{far-at}
 use Rattle.outlines.specs.Side.{Each}
 use Rattle.outlines.specs.Stages.Trace.{kinds-from, marks-from, nextPlace, upPlace, open?, withMark, markAll, loopOf, openAfter, openCount, Unmarked, Walkable, Progress, sideDone, sidesDone, Arranged, Traced}
 use Rattle.outlines.specs.Stages.Whole.{aboveBy, Kinded, SidesPrepared, KindsKept, Outlined}
@@ -117,10 +116,10 @@ module _ (c : List ℕ) (p : ℕ) (w w₁ w₂ : List ℕ) (r : ℕ) (lent : Kin
 
   module _ (unmarked : Unmarked c p w₁ w₂ (length c)) where
     far : (j : ℕ) → marks-from c p + length c ≤ j → at w₂ j ≡ at w j
-    far j l = unmarked .over j l ∙ far-at (sides-from c p + r) j w₁ w (listed .far) (omega (arith, listed .half))
+    far j l = unmarked .over j l ∙ listed .rest .over j (omega (arith, listed .half))
 
     kind-kept : (v : ℕ) → v < p → at w₂ (kinds-from c p + v) ≡ at w (kinds-from c p + v)
-    kind-kept v l = unmarked .under (kinds-from c p + v) (omega arith) ∙ far-at (sides-from c p + r) (kinds-from c p + v) w₁ w (listed .far) (omega (arith, listed .half))
+    kind-kept v l = unmarked .under (kinds-from c p + v) (omega arith) ∙ listed .rest .over (kinds-from c p + v) (omega (arith, listed .half))
 
     pub prepared : (n : ℕ) → n ≡ openCount c p w₂ (sorted c p) → SidesPrepared c p w₂ (length c / 2) n × KindsKept c p w w₂
     prepared n e =
