@@ -2,7 +2,7 @@
 use Prim.Native.Nat.{ℕ, zero, suc, _+_, _*_, _<_, _≤_, _^_}
 use native.Mathlib.Omega.{arith}
 use mathlib.Core.Path.{_≡_, sym, ap, _∙_, subst}
-use mathlib.Core.Logic.{inl}
+use mathlib.Core.Logic.{inl, inr}
 use mathlib.Core.Bool.{Bool, true, false, cond}
 use mathlib.Core.List.{List, _∷_, map}
 use lib.Dec.{T, le→leb}
@@ -79,12 +79,12 @@ module _ (ps qs : List Float) (ns c ls : List ℕ) (p r : ℕ) (w : List ℕ) (h
           behind = omega arith;
           most = omega arith;
           room = omega arith;
-          places = λ i l. let m = place-low i l in let u = f .under (sidesFrom c p + i) (omega arith) in omega arith;
+          places = λ i l. let m = place-low i l in let u = f .rest .under (sidesFrom c p + i) (omega arith) in omega arith;
         }
 
     module _ (w₂ : List ℕ) (sum : Float) (e₂ : length w₂ ≡ length w₁) (m : Measured ps c w₁ w₂ (sidesFrom c p) r (keysFrom c p) sum) where
       stays : (j : ℕ) → j < weakFrom c p → at w₂ j ≡ at w j
-      stays j l = m .under j (omega arith) ∙ f .under j l
+      stays j l = m .rest .under j (omega arith) ∙ f .rest .under j l
 
       twins₂ : (k : ℕ) → k < length c → Twin c k (at w₂ (p * 3 + length c + k))
       twins₂ k l = subst (Twin c k) (sym (stays (p * 3 + length c + k) (omega arith))) (n .twins k l)
@@ -128,7 +128,7 @@ module _ (ps qs : List Float) (ns c ls : List ℕ) (p r : ℕ) (w : List ℕ) (h
         limit-same =
             let room = h .room in
             let half = n .half in
-            let same : part w₁ (sidesFrom c p) r ≡ sorted c p = part-kept w w₁ (sidesFrom c p) r e₁ (omega arith) (λ j l. f .under j (omega arith)) ∙ n .listed in
+            let same : part w₁ (sidesFrom c p) r ≡ sorted c p = part-kept w w₁ (sidesFrom c p) r e₁ (omega arith) (λ j l. f .rest .under j (omega arith)) ∙ n .listed in
             ap (λ (q : ℕ). times shortPart (Ieee.div binary64 sum (counted q))) (sym many)
             ∙ limit-is (scene ps qs ns) c ls p (h .lists .thirds) (h .closed) (λ (i : ℕ). at w (sidesFrom c p + i)) place-is sum (m .sum ∙ ap (λ (l : List ℕ). total ps plusZero (map (sideAt c) l)) same)
 
@@ -139,7 +139,7 @@ module _ (ps qs : List Float) (ns c ls : List ℕ) (p r : ℕ) (w : List ℕ) (h
             let half = n .half in
             ap (picks ps c (p * 3 + length c) (weakFrom c p) most w₂) (stays (sidesFrom c p + i) (omega arith))
             ∙ tests-are (scene ps qs ns) c ls p (h .lists .thirds) (h .closed) (λ (i : ℕ). at w (sidesFrom c p + i)) place-is (h .labelled .size) w₂ (p * 3 + length c) (weakFrom c p) most twins₂
-            (λ j o. let z = h .labelled .size in m .under (weakFrom c p + j) (omega arith) ∙ f .each j o)
+            (λ j o. let z = h .labelled .size in m .rest .under (weakFrom c p + j) (omega arith) ∙ f .each j o)
             (n .order) i l
 
         key-same : (i : ℕ) → i < length (sorted c p) → keysIn w₃ (keysFrom c p) r i ≡ lengthBits ps (sideAt c (at w (sidesFrom c p + i)))
@@ -147,9 +147,9 @@ module _ (ps qs : List Float) (ns c ls : List ℕ) (p r : ℕ) (w : List ℕ) (h
             let e = many in
             let room = h .room in
             let half = n .half in
-            ap (λ (ks : List ℕ). keyOf ks i) (part-kept w₂ w₃ (keysFrom c p) (2 * r) e₃ (omega arith) (λ j o. k .under j (omega arith)))
+            ap (λ (ks : List ℕ). keyOf ks i) (part-kept w₂ w₃ (keysFrom c p) (2 * r) e₃ (omega arith) (λ j o. k .rest .under j (omega arith)))
             ∙ m .lengths i (omega arith)
-            ∙ ap (λ (j : ℕ). lengthBits ps (sideAt c j)) (f .under (sidesFrom c p + i) (omega arith))
+            ∙ ap (λ (j : ℕ). lengthBits ps (sideAt c j)) (f .rest .under (sidesFrom c p + i) (omega arith))
 
         pub chosen-is : (w₄ : List ℕ) → Sorts w₃ w₄ (keysFrom c p) r (itemsFrom c p) (spareFrom c p) x → Chosen (scene ps qs ns) c ls p r w w₄ x
         chosen-is w₄ z =
@@ -169,5 +169,9 @@ module _ (ps qs : List Float) (ns c ls : List ℕ) (p r : ℕ) (w : List ℕ) (h
               low = λ j l.
                   subst (λ (y : ℕ). y < r) (ap (λ (l : List ℕ). at l j) (sym (z .result)) ∙ part-at w₄ (itemsFrom c p) x j l)
                   (sorted-at key (λ (y : ℕ). y < r) (part w₃ (itemsFrom c p) x) low j (omega arith));
-              under = λ j l. z .rest j (inl (omega arith)) (inl (omega arith)) ∙ k .under j (omega arith) ∙ stays j l;
+              rest = record {
+                len = z .len ∙ e₃ ∙ e₂ ∙ e₁;
+                under = λ j l. z .rest j (inl (omega arith)) (inl (omega arith)) ∙ k .rest .under j (omega arith) ∙ stays j l;
+                over = λ j l. let a = h .labelled .size in z .rest j (inr (omega arith)) (inr (omega arith)) ∙ k .rest .over j (omega arith) ∙ m .rest .over j (omega arith) ∙ f .rest .over j (omega arith);
+              };
             }

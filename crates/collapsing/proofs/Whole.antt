@@ -27,17 +27,23 @@ use Rattle.oracle.specs.Slivers.{pass}
 use Rattle.scores.specs.Measures.{pairOf, sideAt, Filled}
 use Rattle.slivers.specs.Stand.{Stands}
 use Rattle.slivers.specs.Ready.{Ready, Items, Passing, candidatesIn}
-use Rattle.collapsing.specs.Areas.{sidesFrom, chainsFrom, carriedFrom, lonesFrom, weakFrom, itemsFrom, touchedFrom}
+use Rattle.halfedges.specs.Free.{Free}
+use Rattle.halfedges.proofs.Free.{free-wider, free-more}
+use Rattle.collapsing.specs.Areas.{sidesFrom, chainsFrom, carriedFrom, lonesFrom, weakFrom, itemsFrom, touchedFrom, collapseWords}
 use Rattle.collapsing.specs.Noting.{Collapsible, Noted, Chosen, Clean, Collapsed}
 
 -- ---- begin_collapses
 
 pub clean-of : (p n touched : ℕ) (w w₁ w₂ w₃ : List ℕ) → Cleared touched p w w₁ → Filled (λ (i : ℕ). i) (touched + p) w₁ w₂ p → Cleared (touched + p * 2) n w₂ w₃ → Clean p n touched w w₃
 clean-of p n touched w w₁ w₂ w₃ a b c = record {
-  untouched = λ x l. c .under (touched + x) (omega arith) ∙ b .under (touched + x) (omega arith) ∙ a .zeros x l;
+  untouched = λ x l. c .under (touched + x) (omega arith) ∙ b .rest .under (touched + x) (omega arith) ∙ a .zeros x l;
   same = λ x l. c .under (touched + p + x) (omega arith) ∙ b .each x l;
   stay = c .zeros;
-  under = λ j l. c .under j (omega arith) ∙ b .under j (omega arith) ∙ a .under j l;
+  rest = record {
+    len = c .len ∙ b .rest .len ∙ a .len;
+    under = λ j l. c .under j (omega arith) ∙ b .rest .under j (omega arith) ∙ a .under j l;
+    over = λ j l. c .over j l ∙ b .rest .over j (omega arith) ∙ a .over j (omega arith);
+  };
 }
 
 -- ---- the state with which the pass begins stands in the words
@@ -93,7 +99,7 @@ collapsible-kept w′ e h = record { lists = h .lists; coords = h .coords; label
 module _ (ps : List Float) (c ls : List ℕ) (p : ℕ) (w : List ℕ) (h : Collapsible ps c ls p w) (s : Scene) (w₁ w₂ w₃ : List ℕ) (r n : ℕ) (e₁ : length w₁ ≡ length w) (e₂ : length w₂ ≡ length w₁) (e₃ : length w₃ ≡ length w₂)
     (noted : Noted c ls p w₁ r) (chosen : Chosen s c ls p r w₁ w₂ n) (clean : Clean p (length ls) (touchedFrom c p) w₂ w₃) where
   kept : (j : ℕ) → j < weakFrom c p → at w₃ j ≡ at w₁ j
-  kept j l = clean .under j (omega arith) ∙ chosen .under j l
+  kept j l = clean .rest .under j (omega arith) ∙ chosen .rest .under j l
 
   labels : length ls * 3 ≡ length c
   labels = h .labelled .size
@@ -120,7 +126,7 @@ module _ (ps : List Float) (c ls : List ℕ) (p : ℕ) (w : List ℕ) (h : Colla
   }
 
   item : (j : ℕ) → j < n → at w₃ (itemsFrom c p + j) ≡ at w₂ (itemsFrom c p + j)
-  item j l = clean .under (itemsFrom c p + j) (omega (arith, chosen .few, noted .half))
+  item j l = clean .rest .under (itemsFrom c p + j) (omega (arith, chosen .few, noted .half))
 
   side : (j : ℕ) → j < n → at w₃ (sidesFrom c p + at w₃ (itemsFrom c p + j)) ≡ at w₁ (sidesFrom c p + at w₂ (itemsFrom c p + j))
   side j l = ap (λ (x : ℕ). at w₃ (sidesFrom c p + x)) (item j l) ∙ kept (sidesFrom c p + at w₂ (itemsFrom c p + j)) (omega (arith, chosen .low j l, noted .half))
@@ -140,8 +146,14 @@ module _ (ps : List Float) (c ls : List ℕ) (p : ℕ) (w : List ℕ) (h : Colla
     order = omega (arith, chosen .few, noted .half);
   }
 
-  pub pass-collapsed : (w₄ : List ℕ) → Passing s c ls p (sidesFrom c p) (itemsFrom c p) (touchedFrom c p) w₃ w₄ n → Collapsed s c ls p w₄
-  pass-collapsed w₄ q =
-      subst (λ (l : List Side). Stands c (length ls) p (touchedFrom c p) w₄ (pass true s (pairOf c ls) (collapseStart (pairOf c ls)) l))
-      (in-order c (λ (i : ℕ). sideAt c (at w₁ (sidesFrom c p + i))) w₂ w₃ (sidesFrom c p) (itemsFrom c p) n (omega (arith, chosen .few, noted .half, h .room)) (λ j l. ap (sideAt c) (side j l)) ∙ chosen .list)
-      (q .state (collapseStart (pairOf c ls)) (stands-first c ls p (touchedFrom c p) w₂ w₃ (h .lists) labels clean))
+  pub pass-collapsed : (w₄ : List ℕ) → Passing s c ls p (sidesFrom c p) (itemsFrom c p) (touchedFrom c p) w₃ w₄ n → Free 0 (weakFrom c p) w w₁ → Collapsed s c ls p w w₄
+  pass-collapsed w₄ q free = record {
+    state =
+        subst (λ (l : List Side). Stands c (length ls) p (touchedFrom c p) w₄ (pass true s (pairOf c ls) (collapseStart (pairOf c ls)) l))
+        (in-order c (λ (i : ℕ). sideAt c (at w₁ (sidesFrom c p + i))) w₂ w₃ (sidesFrom c p) (itemsFrom c p) n (omega (arith, chosen .few, noted .half, h .room)) (λ j l. ap (sideAt c) (side j l)) ∙ chosen .list)
+        (q .state (collapseStart (pairOf c ls)) (stands-first c ls p (touchedFrom c p) w₂ w₃ (h .lists) labels clean));
+    rest =
+        free-more (free-wider 0 (collapseWords c p) (omega arith) (omega arith) free)
+        (free-more (free-wider 0 (collapseWords c p) (omega arith) (omega arith) (chosen .rest))
+        (free-more (free-wider 0 (collapseWords c p) (omega arith) (omega (arith, labels)) (clean .rest)) (free-wider 0 (collapseWords c p) (omega arith) (omega (arith, labels)) (q .rest))));
+  }

@@ -20,7 +20,7 @@ ghost use Rattle.chains.specs.Marks.{Lists};
 ghost use Rattle.oracle.specs.Scene.{scene};
 ghost use Rattle.scores.specs.Measures.{Filled};
 ghost use Rattle.collapsing.specs.Areas.{weakFrom};
-ghost use Rattle.collapsing.specs.Noting.{CarriedAt, Collapsible, Noted, Chosen, Clean, Collapsed};
+ghost use Rattle.collapsing.specs.Noting.{CarriedAt, Collapsible, Noted, ListsNoted, Chosen, Clean, Collapsed};
 
 // The marks of the labels in the words from `carried` on.
 fn mark_labels_at(corners: &[u32], labels: &[u8], heads: usize, carried: usize, work: &mut [u32])
@@ -38,7 +38,7 @@ fn note_lists(corners: &[u32], labels: &[u8], heads: usize, work: &mut [u32]) ->
     requires { ⌜ Labelled (now corners) (now labels) ⌝ }
     requires { ⌜ Closed (triangles (now corners)) ⌝ }
     requires { ⌜ weakFrom (now corners) heads ≤ length (now work) ⌝ }
-    ensures { λ r. ⌜ Noted (now (corners .entry)) (now (labels .entry)) heads (now (work .exit)) r ⌝ }
+    ensures { λ r. ⌜ ListsNoted (now (corners .entry)) (now (labels .entry)) heads (now (work .entry)) (now (work .exit)) r ⌝ }
 {
     let places = corners.len();
     let chains = heads * 3 + places * 3 + places / 2;
@@ -124,7 +124,7 @@ pub fn note_collapses(
     work: &mut [u32],
 )
     requires { ⌜ Collapsible (now points) (now corners) (now labels) heads (now work) ⌝ }
-    ensures { λ _. ⌜ Collapsed (scene (now (points .entry)) (now (coefficients .entry)) (now (powers .entry))) (now (corners .entry)) (now (labels .entry)) heads (now (work .exit)) ⌝ }
+    ensures { λ _. ⌜ Collapsed (scene (now (points .entry)) (now (coefficients .entry)) (now (powers .entry))) (now (corners .entry)) (now (labels .entry)) heads (now (work .entry)) (now (work .exit)) ⌝ }
 {
     let places = corners.len();
     let sides = heads * 3 + places * 3;

@@ -65,7 +65,7 @@ collapsible-of {ps} h = record {
 }
 
 -- w₁: the words after the pass
-module _ (ps qs : List Float) (ns c ls w : List ℕ) (h : Improvable ps c ls w) (w₁ : List ℕ) (e₁ : length w₁ ≡ length w) (stands : Collapsed (scene ps qs ns) c ls (length ps / 3) w₁) where
+module _ (ps qs : List Float) (ns c ls w : List ℕ) (h : Improvable ps c ls w) (w₁ : List ℕ) (e₁ : length w₁ ≡ length w) (done : Collapsed (scene ps qs ns) c ls (length ps / 3) w w₁) where
   abbrev p : ℕ
   p = length ps / 3
 
@@ -98,7 +98,7 @@ module _ (ps qs : List Float) (ns c ls w : List ℕ) (h : Improvable ps c ls w) 
 
     pair : pairOf (take (3 * n) c₁) (take n ls₁) ≡ dropped true (sheetOf qs ns) (meshOf ps c ls)
     unfolding dropped
-    pair = dropped-result c ls w₁ c₁ ls₁ (touched + p) (touched + p * 2) n (pass true (scene ps qs ns) (pairOf c ls) (collapseStart (pairOf c ls)) (candidates (scene ps qs ns) (pairOf c ls) (length ps / 3))) d (stands .tris) (gone-is (pass true (scene ps qs ns) (pairOf c ls) (collapseStart (pairOf c ls)) (candidates (scene ps qs ns) (pairOf c ls) (length ps / 3)) .gone) w₁ (touched + p * 2) (length ls) (stands .size) (sizes .1) (stands .gone))
+    pair = dropped-result c ls w₁ c₁ ls₁ (touched + p) (touched + p * 2) n (pass true (scene ps qs ns) (pairOf c ls) (collapseStart (pairOf c ls)) (candidates (scene ps qs ns) (pairOf c ls) (length ps / 3))) d (done .state .tris) (gone-is (pass true (scene ps qs ns) (pairOf c ls) (collapseStart (pairOf c ls)) (candidates (scene ps qs ns) (pairOf c ls) (length ps / 3)) .gone) w₁ (touched + p * 2) (length ls) (done .state .size) (sizes .1) (done .state .gone))
 
     abbrev left : Pair
     left = dropped true (sheetOf qs ns) (meshOf ps c ls)
@@ -114,9 +114,9 @@ module _ (ps qs : List Float) (ns c ls w : List ℕ) (h : Improvable ps c ls w) 
         let z = thirds-length c (h .lists .thirds) in
         let e = map-place (renumber (becomes w₁ (touched + p))) (triangles c) i l ∙ ap (renumber (becomes w₁ (touched + p))) (place-triangles c i (omega arith)) in
         subst (Low (length ps / 3)) (sym e) (record {
-          a = stands .below (at c (3 * i)) (h .lists .below (3 * i) (omega arith));
-          b = stands .below (at c (3 * i + 1)) (h .lists .below (3 * i + 1) (omega arith));
-          c = stands .below (at c (3 * i + 2)) (h .lists .below (3 * i + 2) (omega arith));
+          a = done .state .below (at c (3 * i)) (h .lists .below (3 * i) (omega arith));
+          b = done .state .below (at c (3 * i + 1)) (h .lists .below (3 * i + 1) (omega arith));
+          c = done .state .below (at c (3 * i + 2)) (h .lists .below (3 * i + 2) (omega arith));
         })
 
     low : (k : ℕ) → k < length (take (3 * n) c₁) → at (take (3 * n) c₁) k < length ps / 3

@@ -26,7 +26,7 @@ same-length c = search needs
 returns : tie.Need-returns
 returns c =
     let a = (c .before .before .before .before .before .before .before) in
-    carried-at (a .args .corners .now) (a .args .labels .now) (a .args .heads) (a .args .carried) (a .args .work .now) _ _ (a .pre .1 .1) ((c .before .before) .mark-labels .kept .1 .1 .1 .0) ((c .before .before) .mark-labels .ensures) refl
+    carried-at (a .args .corners .now) (a .args .labels .now) (a .args .heads) (a .args .carried) (a .args .work .now) _ _ (a .pre .1 .1) ((c .before .before) .mark-labels .ensures) refl
 
 pub mark-labels-at-spec : {M : Type 1} → statement M
 mark-labels-at-spec =

@@ -61,7 +61,7 @@ note-candidates-requires : tie.Need-note-candidates-requires
 note-candidates-requires c κs =
     let l = c .before .before .before in
     let a = l .before .before .before .before .before .before .before .before in
-    (collapsible-kept _ (l .note-lists .kept .1 .1 .1 .0) (a .pre), l .note-lists .ensures)
+    (collapsible-kept _ (l .note-lists .kept .1 .1 .1 .0) (a .pre), l .note-lists .ensures .noted)
 
 begin-collapses-requires : tie.Need-begin-collapses-requires
 begin-collapses-requires c κs = search needs
@@ -72,7 +72,7 @@ collapse-candidates-requires c κs =
     let d = b .before .before .before .before in
     let l = d .before .before .before .before in
     let a = l .before .before .before .before .before .before .before .before in
-    (pass-ready (a .args .points .now) (a .args .corners .now) (a .args .labels .now) (a .args .heads) (a .args .work .now) (a .pre) (scene (a .args .points .now) (a .args .coefficients .now) (a .args .powers .now)) _ _ _ _ _ (l .note-lists .kept .1 .1 .1 .0) (d .note-candidates .kept .1 .1 .1 .1 .1 .1 .1 .0) (b .begin-collapses .kept .1 .1 .1 .0) (l .note-lists .ensures) (d .note-candidates .ensures) (b .begin-collapses .ensures), pass-items (a .args .points .now) (a .args .corners .now) (a .args .labels .now) (a .args .heads) (a .args .work .now) (a .pre) (scene (a .args .points .now) (a .args .coefficients .now) (a .args .powers .now)) _ _ _ _ _ (l .note-lists .kept .1 .1 .1 .0) (d .note-candidates .kept .1 .1 .1 .1 .1 .1 .1 .0) (b .begin-collapses .kept .1 .1 .1 .0) (l .note-lists .ensures) (d .note-candidates .ensures) (b .begin-collapses .ensures))
+    (pass-ready (a .args .points .now) (a .args .corners .now) (a .args .labels .now) (a .args .heads) (a .args .work .now) (a .pre) (scene (a .args .points .now) (a .args .coefficients .now) (a .args .powers .now)) _ _ _ _ _ (l .note-lists .kept .1 .1 .1 .0) (d .note-candidates .kept .1 .1 .1 .1 .1 .1 .1 .0) (b .begin-collapses .kept .1 .1 .1 .0) (l .note-lists .ensures .noted) (d .note-candidates .ensures) (b .begin-collapses .ensures), pass-items (a .args .points .now) (a .args .corners .now) (a .args .labels .now) (a .args .heads) (a .args .work .now) (a .pre) (scene (a .args .points .now) (a .args .coefficients .now) (a .args .powers .now)) _ _ _ _ _ (l .note-lists .kept .1 .1 .1 .0) (d .note-candidates .kept .1 .1 .1 .1 .1 .1 .1 .0) (b .begin-collapses .kept .1 .1 .1 .0) (l .note-lists .ensures .noted) (d .note-candidates .ensures) (b .begin-collapses .ensures))
 
 same-length : tie.Need-same-length
 same-length c = search needs
@@ -83,7 +83,7 @@ returns c =
     let d = b .before .before .before .before in
     let l = d .before .before .before .before in
     let a = l .before .before .before .before .before .before .before .before in
-    pass-collapsed (a .args .points .now) (a .args .corners .now) (a .args .labels .now) (a .args .heads) (a .args .work .now) (a .pre) (scene (a .args .points .now) (a .args .coefficients .now) (a .args .powers .now)) _ _ _ _ _ (l .note-lists .kept .1 .1 .1 .0) (d .note-candidates .kept .1 .1 .1 .1 .1 .1 .1 .0) (b .begin-collapses .kept .1 .1 .1 .0) (l .note-lists .ensures) (d .note-candidates .ensures) (b .begin-collapses .ensures) _ ((c .before .before) .collapse-candidates .ensures)
+    pass-collapsed (a .args .points .now) (a .args .corners .now) (a .args .labels .now) (a .args .heads) (a .args .work .now) (a .pre) (scene (a .args .points .now) (a .args .coefficients .now) (a .args .powers .now)) _ _ _ _ _ (l .note-lists .kept .1 .1 .1 .0) (d .note-candidates .kept .1 .1 .1 .1 .1 .1 .1 .0) (b .begin-collapses .kept .1 .1 .1 .0) (l .note-lists .ensures .noted) (d .note-candidates .ensures) (b .begin-collapses .ensures) _ ((c .before .before) .collapse-candidates .ensures) (l .note-lists .ensures .rest)
 
 pub note-collapses-spec : {M : Type 1} → statement M
 note-collapses-spec =

@@ -1,5 +1,5 @@
 -- `collapsing::note_lists` meets its contract, by those of the functions that it calls.
-use Rattle.collapsing.proofs.Lists.{carried-room, note-marking, lists-noted}
+use Rattle.collapsing.proofs.Lists.{carried-room, note-marking, lists-made}
 use borrow.Author.Needs.{needs}
 use Rattle.collapsing.proofs.note_lists.Statement.{statement}
 use Rattle.collapsing.proofs.note_lists.Tie as tie
@@ -56,7 +56,7 @@ same-length c = search needs
 returns : tie.Need-returns
 returns c =
     let a = (c .before .before .before .before .before .before .before .before .before .before .before .before .before .before .before .before .before .before .before .before .before .before .before) in
-    lists-noted (a .args .corners .now) (a .args .labels .now) (a .args .heads) (a .args .work .now) (a .pre .0) (a .pre .1 .1 .0) (a .pre .1 .1 .1) _ _ ((c .before .before .before .before .before .before .before .before .before .before .before .before .before .before .before .before .before .before) .list-sides .kept .1 .1 .0) ((c .before .before .before .before .before .before .before .before .before .before .before .before .before .before .before .before .before .before) .list-sides .ensures) _ ((c .before .before .before .before .before .before .before .before .before .before .before .before .before .before) .count-valences .kept .1 .1 .0) ((c .before .before .before .before .before .before .before .before .before .before .before .before .before .before) .count-valences .ensures) _ ((c .before .before .before .before .before .before .before .before .before .before) .chain-at .kept .1 .1 .1 .0) ((c .before .before .before .before .before .before .before .before .before .before) .chain-at .ensures) _ ((c .before .before .before .before .before .before) .mark-labels-at .kept .1 .1 .1 .1 .0) ((c .before .before .before .before .before .before) .mark-labels-at .ensures) _ ((c .before .before) .mark-sides .ensures)
+    lists-made (a .args .corners .now) (a .args .labels .now) (a .args .heads) (a .args .work .now) (a .pre .0) (a .pre .1 .1 .0) (a .pre .1 .1 .1) _ _ ((c .before .before .before .before .before .before .before .before .before .before .before .before .before .before .before .before .before .before) .list-sides .kept .1 .1 .0) ((c .before .before .before .before .before .before .before .before .before .before .before .before .before .before .before .before .before .before) .list-sides .ensures) _ ((c .before .before .before .before .before .before .before .before .before .before .before .before .before .before) .count-valences .kept .1 .1 .0) ((c .before .before .before .before .before .before .before .before .before .before .before .before .before .before) .count-valences .ensures) _ ((c .before .before .before .before .before .before .before .before .before .before) .chain-at .kept .1 .1 .1 .0) ((c .before .before .before .before .before .before .before .before .before .before) .chain-at .ensures) _ ((c .before .before .before .before .before .before) .mark-labels-at .kept .1 .1 .1 .1 .0) ((c .before .before .before .before .before .before) .mark-labels-at .ensures) _ ((c .before .before) .mark-sides .ensures)
 
 pub note-lists-spec : {M : Type 1} → statement M
 note-lists-spec =
