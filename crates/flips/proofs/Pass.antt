@@ -131,6 +131,17 @@ module _ (s : Scene) (c ls : List ℕ) (p : ℕ) (w₀ : List ℕ) (across begun
   named : (v : ℕ) → (i : ℕ) × (i < length c) × (at c i ≡ v) → v < p
   named v x = let l = h .below (x .0) (x .1) in let e = x .2 in omega arith
 
+  pub touch-over : (w : List ℕ) (j : ℕ) → touched + p ≤ j → at (touchFour touched q w) j ≡ at w j
+  touch-over w j l =
+      let lu = named (q .u) (sd .u-low) in
+      let lv = named (q .v) (sd .v-low) in
+      let lc = named (q .c) (sd .c-low) in
+      let ld = named (q .d) (sd .d-low) in
+      getD-set-other (set (set (set w (touched + q .u) 1) (touched + q .v) 1) (touched + q .c) 1) (touched + q .d) j 1 0 (λ z. omega arith)
+      ∙ getD-set-other (set (set w (touched + q .u) 1) (touched + q .v) 1) (touched + q .c) j 1 0 (λ z. omega arith)
+      ∙ getD-set-other (set w (touched + q .u) 1) (touched + q .v) j 1 0 (λ z. omega arith)
+      ∙ getD-set-other w (touched + q .u) j 1 0 (λ z. omega arith)
+
   pub flip-matches : (st : FlipState) (c₁ w₁ : List ℕ) → length c₁ ≡ length c → length w₁ ≡ length w₀ → Matches p touched st c₁ w₁
       → Matches p touched (flipStep (pairOf c ls) st (at c k) (at c (nx k))) (flipCorners q c₁) (touchFour touched q w₁)
   unfolding flipStep

@@ -9,6 +9,8 @@ use lib.Ieee.{Float}
 use Rattle.surface.specs.Triangle.{Tri, triangles}
 use Rattle.surface.specs.Closed.{Closed, sides}
 use Rattle.halfedges.specs.Place.{nx, pv, at, uses, Sized}
+use Rattle.halfedges.specs.Free.{Free}
+use Rattle.halfedges.proofs.Free.{free-wider, free-more}
 use Rattle.halfedges.proofs.Fine.{nx-below}
 use Rattle.sides.specs.Side.{Twin, sorted, sides-from}
 use Rattle.sides.specs.Whole.{Handed, Listed}
@@ -31,7 +33,7 @@ use Rattle.scores.specs.Measures.{scoreAt, sideAt, Filled}
 use Rattle.scores.specs.Measures.{pairOf}
 use Rattle.scores.proofs.Rises.{rising-is}
 use Rattle.flips.specs.Quads.{Ready, Standing, Shaped, Passed}
-use Rattle.flips.specs.Whole.{sidesFrom, chainsFrom, acrossFrom, Noted, Begun, Flippable, Flipped}
+use Rattle.flips.specs.Whole.{sidesFrom, chainsFrom, acrossFrom, flipWords, Noted, ListNoted, Begun, Flippable, Flipped}
 
 -- ---- mark_list
 
@@ -49,7 +51,7 @@ module _ (c : List ℕ) (p : ℕ) (w : List ℕ) (lists : Lists c p) (closed : C
 
       module _ (w₃ : List ℕ) (e₃ : length w₃ ≡ length w₂) (h : ChainedAt c p (chainsFrom c p) w₂ w₃) where
         past : (j : ℕ) → p + p ≤ j → j < chainsFrom c p → at w₃ j ≡ at w₁ j
-        past j m n = h .under j n ∙ v .kept .over j m
+        past j m n = h .rest .under j n ∙ v .kept .over j m
 
         twins₃ : (k : ℕ) → k < length c → Twin c k (at w₃ (p * 3 + length c + k))
         twins₃ k m =
@@ -57,7 +59,7 @@ module _ (c : List ℕ) (p : ℕ) (w : List ℕ) (lists : Lists c p) (closed : C
             subst (Twin c k) (sym (ap (at w₃) z ∙ past (p + p + p + length c + k) (omega arith) (omega arith))) (l .twins k m)
 
         degrees₃ : (x : ℕ) → x < p → at w₃ (p + x) ≡ uses c x (length c)
-        degrees₃ x m = h .under (p + x) (omega arith) ∙ v .places x m
+        degrees₃ x m = h .rest .under (p + x) (omega arith) ∙ v .places x m
 
         pub list-marking : Marking c p w₃ (chainsFrom c p) (chainsFrom c p + p + length c) (acrossFrom c p)
         list-marking = record {
@@ -75,12 +77,12 @@ module _ (c : List ℕ) (p : ℕ) (w : List ℕ) (lists : Lists c p) (closed : C
         pub list-noted : (w₄ : List ℕ) → AcrossBelow c p (chainsFrom c p + p + length c) (acrossFrom c p) p w₃ w₄ → Noted c p w₄ r
         list-noted w₄ a =
             let half = l .half in
-            let e₄ = a .len in
-            let same : (j : ℕ) → p + p ≤ j → j < chainsFrom c p → at w₄ j ≡ at w₁ j = λ j m n. a .under j (omega arith) ∙ past j m n in
+            let e₄ = a .rest .len in
+            let same : (j : ℕ) → p + p ≤ j → j < chainsFrom c p → at w₄ j ≡ at w₁ j = λ j m n. a .rest .under j (omega arith) ∙ past j m n in
             let z : sidesFrom c p ≡ sides-from c p = omega arith in
             record {
-              twins = λ k m. subst (Twin c k) (sym (a .under (p * 3 + length c + k) (omega arith))) (twins₃ k m);
-              degrees = λ x m. a .under (p + x) (omega arith) ∙ degrees₃ x m;
+              twins = λ k m. subst (Twin c k) (sym (a .rest .under (p * 3 + length c + k) (omega arith))) (twins₃ k m);
+              degrees = λ x m. a .rest .under (p + x) (omega arith) ∙ degrees₃ x m;
               listed =
                   let n₄ = part-length w₄ (sidesFrom c p) r (omega arith) in
                   let n₁ = part-length w₁ (sides-from c p) r (omega arith) in
@@ -91,7 +93,19 @@ module _ (c : List ℕ) (p : ℕ) (w : List ℕ) (lists : Lists c p) (closed : C
               order = l .order;
               joins = λ k m.
                   a .done k m (lists .below k m)
-                  ∙ ap (λ (j : ℕ). sides (triangles c) (at c k) (at c (pv j))) (sym (a .under (p * 3 + length c + nx k) (let n = nx-below (length c) k (lists .thirds) m in omega arith)));
+                  ∙ ap (λ (j : ℕ). sides (triangles c) (at c k) (at c (pv j))) (sym (a .rest .under (p * 3 + length c + nx k) (let n = nx-below (length c) k (lists .thirds) m in omega arith)));
+            }
+
+        pub list-made : (w₄ : List ℕ) → AcrossBelow c p (chainsFrom c p + p + length c) (acrossFrom c p) p w₃ w₄ → ListNoted c p w w₄ r
+        list-made w₄ a =
+            let half = l .half in
+            let all = acrossFrom c p + length c in
+            record {
+              noted = list-noted w₄ a;
+              rest =
+                  free-more (free-wider 0 all (omega arith) (omega arith) (l .rest))
+                  (free-more (free-wider 0 all (omega arith) (omega arith) (v .kept))
+                  (free-more (free-wider 0 all (omega arith) (omega arith) (h .rest)) (free-wider 0 all (omega arith) (omega arith) (a .rest))));
             }
 
 -- ---- begin_pass
@@ -102,10 +116,14 @@ begun-is s c ls begun kept touched w w₁ w₂ w₃ a b d e₁ e₂ f g h =
     let e₃ = h .len in
     let size = part-length w₃ begun (length c) (omega arith) in
     record {
-      begins = ext-getD 0 (part w₃ begun (length c)) c size (λ i l. part-at w₃ begun (length c) i (omega arith) ∙ h .under (begun + i) (omega arith) ∙ g .under (begun + i) (omega arith) ∙ f .each i (omega arith));
+      begins = ext-getD 0 (part w₃ begun (length c)) c size (λ i l. part-at w₃ begun (length c) i (omega arith) ∙ h .under (begun + i) (omega arith) ∙ g .rest .under (begun + i) (omega arith) ∙ f .each i (omega arith));
       shapes = λ i l. kept-same w₂ w₃ (kept + i * 2) (scoreAt s c ls i) e₃ (h .under (kept + i * 2) (omega arith)) (h .under (kept + i * 2 + 1) (omega arith)) (g .shapes i l);
       zeros = h .zeros;
-      under = λ j l. h .under j (omega arith) ∙ g .under j (omega arith) ∙ f .under j l;
+      rest = record {
+        len = e₃ ∙ e₂ ∙ e₁;
+        under = λ j l. h .under j (omega arith) ∙ g .rest .under j (omega arith) ∙ f .rest .under j l;
+        over = λ j l. h .over j l ∙ g .rest .over j (omega arith) ∙ f .rest .over j (omega arith);
+      };
     }
 
 -- ---- flip_sides
@@ -153,17 +171,17 @@ module _ (ps qs : List Float) (ns c ls w : List ℕ) (h : Flippable ps c ls w) w
           third = omega arith;
           fourth = omega arith;
           room = omega arith;
-          twins = λ k l. subst (Twin c k) (sym (b .under (length ps / 3 * 3 + length c + k) (omega arith))) (n .twins k l);
-          degrees = λ v l. b .under (length ps / 3 + v) (omega arith) ∙ n .degrees v l;
+          twins = λ k l. subst (Twin c k) (sym (b .rest .under (length ps / 3 * 3 + length c + k) (omega arith))) (n .twins k l);
+          degrees = λ v l. b .rest .under (length ps / 3 + v) (omega arith) ∙ n .degrees v l;
           joins = λ k l.
-              b .under (acrossFrom c (length ps / 3) + k) (omega arith) ∙ n .joins k l
-              ∙ ap (λ (j : ℕ). sides (triangles c) (at c k) (at c (pv j))) (sym (b .under (length ps / 3 * 3 + length c + nx k) (let m = nx-below (length c) k (h .thirds) l in omega arith)));
+              b .rest .under (acrossFrom c (length ps / 3) + k) (omega arith) ∙ n .joins k l
+              ∙ ap (λ (j : ℕ). sides (triangles c) (at c k) (at c (pv j))) (sym (b .rest .under (length ps / 3 * 3 + length c + nx k) (let m = nx-below (length c) k (h .thirds) l in omega arith)));
           shapes = b .shapes;
         }
 
     -- the sides are still there
     pub pass-sides : part w₂ (sidesFrom c (length ps / 3)) r ≡ sorted c (length ps / 3)
-    pass-sides = let room = h .room in let half = n .half in part-kept w₁ w₂ (sidesFrom c (length ps / 3)) r e₂ (omega arith) (λ j o. b .under j (omega arith)) ∙ n .listed
+    pass-sides = let room = h .room in let half = n .half in part-kept w₁ w₂ (sidesFrom c (length ps / 3)) r e₂ (omega arith) (λ j o. b .rest .under j (omega arith)) ∙ n .listed
 
     pub pass-standing : Standing c w₂ (sidesFrom c (length ps / 3)) r begun touched
     pass-standing =
@@ -182,13 +200,17 @@ module _ (ps qs : List Float) (ns c ls w : List ℕ) (h : Flippable ps c ls w) w
               omega arith;
         }
 
-    pub pass-flipped : (c′ : List ℕ) (x : ℕ) → Passed (scene ps qs ns) c ls w₂ (sidesFrom c (length ps / 3)) r c′ x → Flipped ps qs ns c ls c′ x
+    pub pass-flipped : (c′ w₃ : List ℕ) (x : ℕ) → Free 0 (acrossFrom c (length ps / 3) + length c) w w₁ → Passed (scene ps qs ns) c ls (length ps / 3) w₂ (sidesFrom c (length ps / 3)) r touched c′ w₃ x → Flipped ps qs ns c ls w c′ w₃ x
     unfolding flipped flips
-    pass-flipped c′ x d =
+    pass-flipped c′ w₃ x free d =
         let all : map (sideAt c) (part w₂ (sidesFrom c (length ps / 3)) r) ≡ rising (triangles c) (length ps / 3) = ap (map (sideAt c)) pass-sides ∙ sym (rising-is c (h .thirds) (h .closed) (length ps / 3)) in
         let pr = pairOf c ls in
         let choose = helps (scene ps qs ns) (pairOf c ls) in
         record {
           pair = ap (λ (ts : List Tri). record { tris = ts; labels = ls }) (d .tris ∙ ap (λ (l : List Side). flipPass pr choose (flipStart pr) l .tris) all);
+          corners = d .corners;
+          rest =
+              let all = flipWords c ls (length ps / 3) in
+              free-more (free-wider 0 all (omega arith) (omega arith) free) (free-more (free-wider 0 all (omega arith) (omega arith) (b .rest)) (free-wider 0 all (omega arith) (omega arith) (d .rest)));
           flips-are = d .flips ∙ ap (λ (l : List Side). length (flipsOf pr choose (flipStart pr) l)) all;
         }

@@ -21,13 +21,14 @@ use Rattle.rounds.specs.Flips.{FlipState}
 use Rattle.oracle.specs.Scene.{Scene, score}
 use Rattle.oracle.specs.Gains.{helps}
 use Rattle.scores.specs.Words.{putAt, Kept}
-use Rattle.scores.proofs.Words.{put-other, put-kept, put-keeps}
+use Rattle.scores.proofs.Words.{put-length, put-other, put-kept, put-keeps}
 use Rattle.scores.specs.Measures.{scoreAt, sideAt}
 use Rattle.scores.specs.Measures.{pairOf}
 use Rattle.flips.specs.declared.Quad.{Quad}
+use Rattle.halfedges.proofs.Free.{free-none, free-wider, free-more}
 use Rattle.flips.specs.Quads.{quadAt, quadIn, decidesAt, flipCorners, touchFour, Tried, Ready, Shaped, Standing, Passed}
 use Rattle.flips.proofs.Decision.{Sided, sided, decision-same}
-use Rattle.flips.proofs.Pass.{decided, stepOf, pass-next, count-next, Matches, flip-matches, flip-length, touch-length, touch-under, ready-kept}
+use Rattle.flips.proofs.Pass.{decided, stepOf, pass-next, count-next, Matches, flip-matches, flip-length, touch-length, touch-under, touch-over, ready-kept}
 
 -- ---- the shapes are kept
 
@@ -36,11 +37,13 @@ unfolding score shape
 score-fits s c ls i = div-fits binary64 _ _
 
 pub shaped-none : (s : Scene) (c ls : List ℕ) (kept : ℕ) (w : List ℕ) → Shaped s c ls kept w w 0
-shaped-none s c ls kept w = record { under = λ j l. refl; shapes = λ i l. absurd (omega arith) }
+shaped-none s c ls kept w = record { rest = free-none w; shapes = λ i l. absurd (omega arith) }
 
 pub shaped-more : (s : Scene) (c ls : List ℕ) (kept : ℕ) (w w′ v : List ℕ) (n : ℕ) (x : Float) → kept + n * 2 + 1 < length w′ → x ≡ scoreAt s c ls n → v ≡ putAt w′ (kept + n * 2) x → Shaped s c ls kept w w′ n → Shaped s c ls kept w v (n + 1)
 shaped-more s c ls kept w w′ v n x room e f h = subst (λ (y : List ℕ). Shaped s c ls kept w y (n + 1)) (sym f) (record {
-  under = λ j l. put-other w′ (kept + n * 2) x j (λ z. omega arith) (λ z. omega arith) ∙ h .under j l;
+  rest =
+      free-more (free-wider kept (kept + (n + 1) * 2) (omega arith) (omega arith) (h .rest))
+      (record { len = put-length w′ (kept + n * 2) x; under = λ j l. put-other w′ (kept + n * 2) x j (λ z. omega arith) (λ z. omega arith); over = λ j l. put-other w′ (kept + n * 2) x j (λ z. omega arith) (λ z. omega arith) });
   shapes = λ i l.
       ⊎-elim
       (λ (z : i ≡ n). subst (λ (m : ℕ). Kept (putAt w′ (kept + n * 2) x) (kept + m * 2) (scoreAt s c ls m)) (sym z) (subst (Kept (putAt w′ (kept + n * 2) x) (kept + n * 2)) e (put-kept w′ (kept + n * 2) x room (subst (λ (y : Float). T (fits binary64 y)) (sym e) (score-fits s c ls n)))))
@@ -48,8 +51,8 @@ shaped-more s c ls kept w w′ v n x room e f h = subst (λ (y : List ℕ). Shap
       (same-or i n);
 })
 
-pub shaped-less : (s : Scene) (c ls : List ℕ) (kept : ℕ) (w w′ : List ℕ) (n m : ℕ) → m ≤ n → Shaped s c ls kept w w′ n → Shaped s c ls kept w w′ m
-shaped-less s c ls kept w w′ n m l h = record { under = h .under; shapes = λ i k. h .shapes i (omega arith) }
+pub shaped-same : (s : Scene) (c ls : List ℕ) (kept : ℕ) (w w′ : List ℕ) (n m : ℕ) → n ≡ m → Shaped s c ls kept w w′ n → Shaped s c ls kept w w′ m
+shaped-same s c ls kept w w′ n m e h = subst (Shaped s c ls kept w w′) e h
 
 -- ---- the pass
 
@@ -71,6 +74,7 @@ pub record Flipping (s : Scene) (c ls : List ℕ) (p : ℕ) (w : List ℕ) (touc
   pub corners : length c₁ ≡ length c
   pub size : length w₁ ≡ length w
   pub under : (j : ℕ) → j < touched → at w₁ j ≡ at w j
+  pub over : (j : ℕ) → touched + p ≤ j → at w₁ j ≡ at w j
   pub state : FlipState
   pub matches : Matches p touched state c₁ w₁
   pub left : flipPass (pairOf c ls) (helps s (pairOf c ls)) state (rest c w sides count i) ≡ flipPass (pairOf c ls) (helps s (pairOf c ls)) (flipStart (pairOf c ls)) (map (sideAt c) (part w sides count))
@@ -87,6 +91,7 @@ flip-starts s c ls p w touched sides count z =
       corners = refl;
       size = refl;
       under = λ j l. refl;
+      over = λ j l. refl;
       state = flipStart (pairOf c ls);
       matches = record { tris = refl; marks = z };
       left = ap (flipPass (pairOf c ls) (helps s (pairOf c ls)) (flipStart (pairOf c ls))) all;
@@ -162,6 +167,10 @@ module _ (s : Scene) (c ls : List ℕ) (p : ℕ) (w : List ℕ) (across begun ke
     under-kept true j m = touch-under touched (quadIn p (length c₁) begun w₁ k) w₁ j m
     under-kept false j m = refl
 
+    over-kept : (b : Bool) (j : ℕ) → touched + p ≤ j → at (cond b (touchFour touched (quadIn p (length c₁) begun w₁ k) w₁) w₁) j ≡ at w₁ j
+    over-kept true j m = touch-over s c ls p w₁ across begun kept touched ready k (quadIn p (length c₁) begun w₁ k) sd w₁ j m
+    over-kept false j m = refl
+
     pub flip-turn : Flipping s c ls p w touched sides count c₂ w₂ (i + 1) (r + x)
     flip-turn =
         let D = decidesAt s ls p (length c₁) across begun kept touched w₁ k in
@@ -179,6 +188,7 @@ module _ (s : Scene) (c ls : List ℕ) (p : ℕ) (w : List ℕ) (across begun ke
           corners = ap length (t .corners) ∙ corners-kept D ∙ I .corners;
           size = ap length (t .words) ∙ size-kept D ∙ I .size;
           under = λ j m. ap (λ (y : List ℕ). at y j) (t .words) ∙ under-kept D j m ∙ I .under j m;
+          over = λ j m. ap (λ (y : List ℕ). at y j) (t .words) ∙ over-kept D j m ∙ I .over j m;
           state = stepOf pr choose st d;
           matches = subst (λ (y : List ℕ). Matches p touched (stepOf pr choose st d) y w₂) (sym (t .corners))
               (subst (λ (y : List ℕ). Matches p touched (stepOf pr choose st d) (cond D (flipCorners (quadIn p (length c₁) begun w₁ k) c₁) c₁) y) (sym (t .words))
@@ -192,12 +202,14 @@ module _ (s : Scene) (c ls : List ℕ) (p : ℕ) (w : List ℕ) (across begun ke
               omega arith;
         }
 
-  pub flip-ends : count ≤ i → Passed s c ls w sides count c₁ r
+  pub flip-ends : count ≤ i → Passed s c ls p w sides count touched c₁ w₁ r
   unfolding flipPass flipsOf
   flip-ends l =
       let m = I .short in
       let z : rest c w sides count i ≡ [] = ap (map (sideAt c)) (part-none w (sides + i) (sides + count) (omega arith)) in
       record {
+        corners = I .corners;
+        rest = record { len = I .size; under = I .under; over = I .over };
         tris = I .matches .tris ∙ ap (λ (x : FlipState). x .tris) (ap (flipPass (pairOf c ls) (helps s (pairOf c ls)) (I .state)) (sym z) ∙ I .left);
         flips = let a = ap (λ (y : List Side). length (flipsOf (pairOf c ls) (helps s (pairOf c ls)) (I .state) y)) z in let b = I .flips in omega arith;
       }

@@ -12,6 +12,7 @@ use Rattle.float.specs.Point.{plus}
 use Rattle.surface.specs.Triangle.{tri, triangles}
 use Rattle.surface.specs.Closed.{Closed, one, sides}
 use Rattle.halfedges.specs.Place.{nx, pv, at, uses}
+use Rattle.halfedges.specs.Free.{Free}
 use Rattle.sides.specs.Side.{Twin}
 use Rattle.sorting.specs.Stable.{part}
 use Rattle.oracle.specs.Number.{gainLeast, shapeEnough}
@@ -122,9 +123,9 @@ pub record Tried (b : Bool) (q : Quad) (touched : ℕ) (c c′ w w′ : List ℕ
   pub words : w′ ≡ cond b (touchFour touched q w) w
   pub count : r ≡ one b
 
--- the shapes of the first n triangles are kept
+-- the shapes of the first n triangles are kept, and no other word changes
 pub record Shaped (s : Scene) (c ls : List ℕ) (kept : ℕ) (w w′ : List ℕ) (n : ℕ) : Type 0 where
-  pub under : (j : ℕ) → j < kept → at w′ j ≡ at w j
+  pub rest : Free kept (kept + n * 2) w w′
   pub shapes : (i : ℕ) → i < n → Kept w′ (kept + i * 2) (scoreAt s c ls i)
 
 -- What the pass over `count` sides is handed besides: the corners c stand from `begun` on, and the places of the sides from `sides` on.
@@ -134,7 +135,9 @@ pub record Standing (c w : List ℕ) (sides count begun touched : ℕ) : Type 0 
   pub most : count ≤ length c
   pub places : (i : ℕ) → i < count → at w (sides + i) < length c
 
--- after the pass: the corners are those of the definition, and r is the number of its flips
-pub record Passed (s : Scene) (c ls w : List ℕ) (sides count : ℕ) (c′ : List ℕ) (r : ℕ) : Type 0 where
+-- after the pass: the corners are those of the definition, and r is the number of its flips; no word changes but those of the touched corners
+pub record Passed (s : Scene) (c ls : List ℕ) (p : ℕ) (w : List ℕ) (sides count touched : ℕ) (c′ w′ : List ℕ) (r : ℕ) : Type 0 where
+  pub corners : length c′ ≡ length c
+  pub rest : Free touched (touched + p) w w′
   pub tris : triangles c′ ≡ flipPass (pairOf c ls) (helps s (pairOf c ls)) (flipStart (pairOf c ls)) (map (sideAt c) (part w sides count)) .tris
   pub flips : r ≡ length (flipsOf (pairOf c ls) (helps s (pairOf c ls)) (flipStart (pairOf c ls)) (map (sideAt c) (part w sides count)))

@@ -7,6 +7,7 @@ use lib.Ieee.{Float}
 use Rattle.surface.specs.Triangle.{triangles}
 use Rattle.surface.specs.Closed.{Closed, sides}
 use Rattle.halfedges.specs.Place.{nx, pv, at, uses}
+use Rattle.halfedges.specs.Free.{Free}
 use Rattle.sides.specs.Side.{Twin, sorted}
 use Rattle.sides.specs.Order.{Sorted}
 use Rattle.sorting.specs.Stable.{part}
@@ -39,12 +40,17 @@ pub record Noted (c : List ℕ) (p : ℕ) (w : List ℕ) (r : ℕ) : Type 0 wher
   pub order : Sorted c (sorted c p)
   pub joins : (k : ℕ) → k < length c → at w (acrossFrom c p + k) ≡ sides (triangles c) (at c k) (at c (pv (at w (p * 3 + length c + nx k))))
 
--- the corners and the shapes stand in the words, no corner is touched, and the words below `begun` stay
+-- they are made, and the words behind them stay
+pub record ListNoted (c : List ℕ) (p : ℕ) (w w′ : List ℕ) (r : ℕ) : Type 0 where
+  pub noted : Noted c p w′ r
+  pub rest : Free 0 (acrossFrom c p + length c) w w′
+
+-- the corners and the shapes stand in the words, no corner is touched, and no word changes below them or behind
 pub record Begun (s : Scene) (c ls : List ℕ) (begun kept touched : ℕ) (w w′ : List ℕ) : Type 0 where
   pub begins : part w′ begun (length c) ≡ c
   pub shapes : (i : ℕ) → i < length ls → Kept w′ (kept + i * 2) (scoreAt s c ls i)
   pub zeros : (x : ℕ) → x < length (s .points) / 3 → at w′ (touched + x) ≡ 0
-  pub under : (j : ℕ) → j < begun → at w′ j ≡ at w j
+  pub rest : Free begun (touched + length (s .points) / 3) w w′
 
 -- what the flip pass is handed: points, and a closed list of triangles with labels; and words
 pub record Flippable (ps : List Float) (c ls w : List ℕ) : Type 0 where
@@ -62,7 +68,9 @@ meshOf ps c ls = record { points = ps; pair = pairOf c ls }
 abbrev pub sheetOf : List Float → List ℕ → Sheet
 sheetOf qs ns = record { coefficients = qs; powers = ns }
 
--- and what it leaves: the pair that the definition has, and the number of its flips
-pub record Flipped (ps qs : List Float) (ns c ls c′ : List ℕ) (r : ℕ) : Type 0 where
+-- And what it leaves: the pair that the definition has, in a list as long as it was, and the number of its flips. The words that the pass needs are free, and further ones are as they were.
+pub record Flipped (ps qs : List Float) (ns c ls w c′ w′ : List ℕ) (r : ℕ) : Type 0 where
   pub pair : pairOf c′ ls ≡ flipped (sheetOf qs ns) (meshOf ps c ls)
+  pub corners : length c′ ≡ length c
   pub flips-are : r ≡ flips (sheetOf qs ns) (meshOf ps c ls)
+  pub rest : Free 0 (flipWords c ls (length ps / 3)) w w′

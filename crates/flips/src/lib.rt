@@ -27,7 +27,7 @@ ghost use Rattle.scores.specs.Words.{Held};
 ghost use Rattle.scores.specs.Measures as Scores;
 ghost use Rattle.scores.specs.Measures.{Filled};
 ghost use Rattle.chains.specs.Marks.{Lists};
-ghost use Rattle.flips.specs.Whole.{acrossFrom, Noted, Begun, Flippable, Flipped};
+ghost use Rattle.flips.specs.Whole.{acrossFrom, ListNoted, Begun, Flippable, Flipped};
 ghost use Rattle.flips.specs.Quads.{quadOf, quadAt, begunAt, touches, evensAt, beforeAt, firstOf, gainsOf, improvesAt, putTri, flipCorners, touchFour, Ready, quadIn, decidesAt, Tried, Shaped, Standing, Passed};
 
 // The four corners of a side's two triangles: the earlier runs from u to v, with c opposite, and d is opposite in the later. `across` is the place of c.
@@ -284,7 +284,7 @@ fn flip_each(
     requires { ⌜ Ready (scene (now points) (now coefficients) (now powers)) (now corners) (now labels) heads (now work) across begun kept touched ⌝ }
     requires { ⌜ Standing (now corners) (now work) sides count begun touched ⌝ }
     requires { ⌜ ((x : ℕ) → x < heads → at (now work) (touched + x) ≡ 0) ⌝ }
-    ensures { λ r. ⌜ Passed (scene (now (points .entry)) (now (coefficients .entry)) (now (powers .entry))) (now (corners .entry)) (now (labels .entry)) (now (work .entry)) sides count (now (corners .exit)) r ⌝ }
+    ensures { λ r. ⌜ Passed (scene (now (points .entry)) (now (coefficients .entry)) (now (powers .entry))) (now (corners .entry)) (now (labels .entry)) heads (now (work .entry)) sides count touched (now (corners .exit)) (now (work .exit)) r ⌝ }
 {
     let mut flips: u32 = 0;
     let mut i: usize = 0;
@@ -315,7 +315,7 @@ fn mark_list(corners: &[u32], heads: usize, work: &mut [u32]) -> usize
     requires { ⌜ Lists (now corners) heads ⌝ }
     requires { ⌜ Closed (triangles (now corners)) ⌝ }
     requires { ⌜ acrossFrom (now corners) heads + length (now corners) ≤ length (now work) ⌝ }
-    ensures { λ r. ⌜ Noted (now (corners .entry)) heads (now (work .exit)) r ⌝ }
+    ensures { λ r. ⌜ ListNoted (now (corners .entry)) heads (now (work .entry)) (now (work .exit)) r ⌝ }
 {
     let places = corners.len();
     let chains = heads * 3 + places * 3 + places / 2;
@@ -358,7 +358,7 @@ pub fn flip_sides(
     work: &mut [u32],
 ) -> u32
     requires { ⌜ Flippable (now points) (now corners) (now labels) (now work) ⌝ }
-    ensures { λ r. ⌜ Flipped (now (points .entry)) (now (coefficients .entry)) (now (powers .entry)) (now (corners .entry)) (now (labels .entry)) (now (corners .exit)) r ⌝ }
+    ensures { λ r. ⌜ Flipped (now (points .entry)) (now (coefficients .entry)) (now (powers .entry)) (now (corners .entry)) (now (labels .entry)) (now (work .entry)) (now (corners .exit)) (now (work .exit)) r ⌝ }
 {
     let heads = points.len() / 3;
     let places = corners.len();

@@ -143,7 +143,7 @@ module _ (ps qs : List Float) (ns c ls w : List ℕ) (h : Improvable ps c ls w) 
 
     -- ---- after the flips
 
-    module _ (c₃ : List ℕ) (k : ℕ) (ec₃ : length c₃ ≡ length (take (n * 3) (c₂ ++ drop (n * 3) c₁))) (f : Flipped (take (p * 3) ps₂) qs ns (take (n * 3) (c₂ ++ drop (n * 3) c₁)) (take n ls₁) c₃ k) where
+    module _ {v v′ : List ℕ} (c₃ : List ℕ) (k : ℕ) (ec₃ : length c₃ ≡ length (take (n * 3) (c₂ ++ drop (n * 3) c₁))) (f : Flipped (take (p * 3) ps₂) qs ns (take (n * 3) (c₂ ++ drop (n * 3) c₁)) (take n ls₁) v c₃ v′ k) where
       abbrev middle : Mesh
       middle = numbered ps left
 

@@ -54,7 +54,7 @@ begin-pass-requires c κs =
 flip-each-requires : tie.Need-flip-each-requires
 flip-each-requires c κs =
     let a = (c .before .before .before .before .before .before .before .before .before .before .before .before .before .before .before .before .before .before) in
-    (pass-ready (a .args .points .now) (a .args .coefficients .now) (a .args .powers .now) (a .args .corners .now) (a .args .labels .now) (a .args .work .now) (a .pre) _ _ _ ((c .before .before .before .before .before .before .before .before .before) .mark-list .kept .1 .1 .0) ((c .before .before .before .before) .begin-pass .kept .1 .1 .1 .1 .1 .1 .1 .1 .0) ((c .before .before .before .before .before .before .before .before .before) .mark-list .ensures) ((c .before .before .before .before) .begin-pass .ensures), (pass-standing (a .args .points .now) (a .args .coefficients .now) (a .args .powers .now) (a .args .corners .now) (a .args .labels .now) (a .args .work .now) (a .pre) _ _ _ ((c .before .before .before .before .before .before .before .before .before) .mark-list .kept .1 .1 .0) ((c .before .before .before .before) .begin-pass .kept .1 .1 .1 .1 .1 .1 .1 .1 .0) ((c .before .before .before .before .before .before .before .before .before) .mark-list .ensures) ((c .before .before .before .before) .begin-pass .ensures), (c .before .before .before .before) .begin-pass .ensures .zeros))
+    (pass-ready (a .args .points .now) (a .args .coefficients .now) (a .args .powers .now) (a .args .corners .now) (a .args .labels .now) (a .args .work .now) (a .pre) _ _ _ ((c .before .before .before .before .before .before .before .before .before) .mark-list .kept .1 .1 .0) ((c .before .before .before .before) .begin-pass .kept .1 .1 .1 .1 .1 .1 .1 .1 .0) ((c .before .before .before .before .before .before .before .before .before) .mark-list .ensures .noted) ((c .before .before .before .before) .begin-pass .ensures), (pass-standing (a .args .points .now) (a .args .coefficients .now) (a .args .powers .now) (a .args .corners .now) (a .args .labels .now) (a .args .work .now) (a .pre) _ _ _ ((c .before .before .before .before .before .before .before .before .before) .mark-list .kept .1 .1 .0) ((c .before .before .before .before) .begin-pass .kept .1 .1 .1 .1 .1 .1 .1 .1 .0) ((c .before .before .before .before .before .before .before .before .before) .mark-list .ensures .noted) ((c .before .before .before .before) .begin-pass .ensures), (c .before .before .before .before) .begin-pass .ensures .zeros))
 
 same-length : tie.Need-same-length
 same-length c = search needs
@@ -65,7 +65,7 @@ same-length-2 c = search needs
 returns : tie.Need-returns
 returns c =
     let a = (c .before .before .before .before .before .before .before .before .before .before .before .before .before .before .before .before .before .before .before .before .before .before .before) in
-    pass-flipped (a .args .points .now) (a .args .coefficients .now) (a .args .powers .now) (a .args .corners .now) (a .args .labels .now) (a .args .work .now) (a .pre) _ _ _ ((c .before .before .before .before .before .before .before .before .before .before .before .before .before .before) .mark-list .kept .1 .1 .0) ((c .before .before .before .before .before .before .before .before .before) .begin-pass .kept .1 .1 .1 .1 .1 .1 .1 .1 .0) ((c .before .before .before .before .before .before .before .before .before .before .before .before .before .before) .mark-list .ensures) ((c .before .before .before .before .before .before .before .before .before) .begin-pass .ensures) _ _ ((c .before .before .before .before) .flip-each .ensures)
+    pass-flipped (a .args .points .now) (a .args .coefficients .now) (a .args .powers .now) (a .args .corners .now) (a .args .labels .now) (a .args .work .now) (a .pre) _ _ _ ((c .before .before .before .before .before .before .before .before .before .before .before .before .before .before) .mark-list .kept .1 .1 .0) ((c .before .before .before .before .before .before .before .before .before) .begin-pass .kept .1 .1 .1 .1 .1 .1 .1 .1 .0) ((c .before .before .before .before .before .before .before .before .before .before .before .before .before .before) .mark-list .ensures .noted) ((c .before .before .before .before .before .before .before .before .before) .begin-pass .ensures) _ _ _ ((c .before .before .before .before .before .before .before .before .before .before .before .before .before .before) .mark-list .ensures .rest) ((c .before .before .before .before) .flip-each .ensures)
 
 pub flip-sides-spec : {M : Type 1} → statement M
 flip-sides-spec =

@@ -7,7 +7,7 @@ use lib.ListN.{length}
 use Rattle.oracle.specs.Scene.{scene}
 use Rattle.scores.proofs.Words.{put-length}
 use Rattle.flips.specs.Quads.{Shaped}
-use Rattle.flips.proofs.Turns.{shaped-none, shaped-more, shaped-less}
+use Rattle.flips.proofs.Turns.{shaped-none, shaped-more, shaped-same}
 use Rattle.flips.proofs.keep_scores.Statement.{statement}
 use Rattle.flips.proofs.keep_scores.Tie as tie
 
@@ -54,7 +54,7 @@ same-length c =
 
 returns : tie.Need-returns Inv-loop μ-loop
 returns c =
-    shaped-less _ _ _ _ _ _ _ _ (omega arith) (c .before .loop .inv .2)
+    shaped-same _ _ _ _ _ _ _ _ (omega arith) (c .before .loop .inv .2)
 
 pub keep-scores-spec : {M : Type 1} → statement M
 keep-scores-spec =

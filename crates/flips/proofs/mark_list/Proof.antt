@@ -1,5 +1,5 @@
 -- `flips::mark_list` meets its contract, by those of the functions that it calls. Assumes nothing.
-use Rattle.flips.proofs.Stages.{list-marking, list-noted}
+use Rattle.flips.proofs.Stages.{list-marking, list-made}
 use borrow.Author.Needs.{needs}
 use Rattle.flips.proofs.mark_list.Statement.{statement}
 use Rattle.flips.proofs.mark_list.Tie as tie
@@ -45,7 +45,7 @@ same-length c = search needs
 returns : tie.Need-returns
 returns c =
     let a = (c .before .before .before .before .before .before .before .before .before .before .before .before .before .before .before .before .before .before) in
-    list-noted (a .args .corners .now) (a .args .heads) (a .args .work .now) (a .pre .0) (a .pre .1 .0) (a .pre .1 .1) _ _ ((c .before .before .before .before .before .before .before .before .before .before .before .before .before .before) .list-sides .kept .1 .1 .0) ((c .before .before .before .before .before .before .before .before .before .before .before .before .before .before) .list-sides .ensures) _ ((c .before .before .before .before .before .before .before .before .before .before) .count-valences .kept .1 .1 .0) ((c .before .before .before .before .before .before .before .before .before .before) .count-valences .ensures) _ ((c .before .before .before .before .before .before) .chain-at .kept .1 .1 .1 .0) ((c .before .before .before .before .before .before) .chain-at .ensures) _ ((c .before .before) .mark-across .ensures)
+    list-made (a .args .corners .now) (a .args .heads) (a .args .work .now) (a .pre .0) (a .pre .1 .0) (a .pre .1 .1) _ _ ((c .before .before .before .before .before .before .before .before .before .before .before .before .before .before) .list-sides .kept .1 .1 .0) ((c .before .before .before .before .before .before .before .before .before .before .before .before .before .before) .list-sides .ensures) _ ((c .before .before .before .before .before .before .before .before .before .before) .count-valences .kept .1 .1 .0) ((c .before .before .before .before .before .before .before .before .before .before) .count-valences .ensures) _ ((c .before .before .before .before .before .before) .chain-at .kept .1 .1 .1 .0) ((c .before .before .before .before .before .before) .chain-at .ensures) _ ((c .before .before) .mark-across .ensures)
 
 pub mark-list-spec : {M : Type 1} → statement M
 mark-list-spec =
