@@ -60,15 +60,13 @@ module _ (points : List Point) (faces : List Tri) (origin : Point) where
       let b = difference (pointOf points (face .b)) origin in
       let c = difference (pointOf points (face .c)) origin in
       let normal = crossed (difference b a) (difference c a) in
-      let sum =
-      plus
-      (plus (dotted (difference b a) (difference b a)) (dotted (difference c b) (difference c b)))
-      (dotted (difference a c) (difference a c)) in
+      let sum = plus (plus (dotted (difference b a) (difference b a)) (dotted (difference c b) (difference c b))) (dotted (difference a c) (difference a c)) in
       let q = over (times (times (number 2) (root binary64 (number 3))) (root binary64 (dotted normal normal))) sum in
+      let volume′ = plus volume (over (dotted a (crossed b c)) (number 6)) in
+      let directed′ = directed ++ (step (face .a) (face .b) ∷ step (face .b) (face .c) ∷ step (face .c) (face .a) ∷ []) in
       cond (leb n (face .a) || (leb n (face .b) || leb n (face .c))) (Err InvalidIndex)
       (cond (not (isFinite q) || le q (number 0)) (Err DegenerateTriangle)
-      (fromFace (lesser minimum q) (plus volume (over (dotted a (crossed b c)) (number 6)))
-      (directed ++ (step (face .a) (face .b) ∷ step (face .b) (face .c) ∷ step (face .c) (face .a) ∷ [])) left))
+      (fromFace (lesser minimum q) volume′ directed′ left))
 
 -- from `let mut minimum` on: `mesh.points[0]` is out of range where there is no point
 abbrev pub fromOrigin : List Point → List Tri → Result
