@@ -229,6 +229,7 @@ module _ (c ls w : List ℕ) (into gone : ℕ) where
       count = I .count ∙ ap length (whole ls (omega (arith, I .size-l)));
       corners = I .front-c ∙ ap corners (whole ts (omega (arith, ts-length, I .size-l)));
       labels = I .front-l ∙ whole ls (omega (arith, I .size-l));
+      lengths = (I .size-c, I .size-l);
     }
       where
         whole : {A : Type 0} (t : List A) → length t ≤ i → kept gs t i ≡ retain gs t

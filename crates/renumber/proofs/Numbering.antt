@@ -23,7 +23,7 @@ use Rattle.rounds.proofs.Loops.{met-more, walk-more, meet-old, meet-new, not-me
 use Rattle.oracle.specs.Points.{gathered}
 use Rattle.scores.specs.Words.{floatAt, Kept}
 use Rattle.scores.proofs.Words.{held, kept-float, kept-same}
-use Rattle.renumber.specs.Numbered.{Numberable, Numbered, loaded, Loadable, Meetable, Met, old, new}
+use Rattle.renumber.specs.Numbered.{Numberable, noted, Numbered, loaded, Loadable, Meetable, Met, old, new}
 
 -- ---- the functions without loops
 
@@ -52,10 +52,7 @@ met-new ps ps′ c w numbers saved k q v m e f l g =
 
 -- ---- the loop
 
--- the word of a corner's new number: one more than it, and 0 where it is not met
-abbrev noted : List ℕ → ℕ → ℕ
-noted seen v = cond (ltb (index seen v) (length seen)) (suc (index seen v)) 0
-
+-- the word of a corner that is met, and of one that is not
 noted-in : (seen : List ℕ) (v : ℕ) → In seen v → noted seen v ≡ suc (index seen v)
 noted-in seen v i = rw (lt-ltb (index seen v) (length seen) i) refl
 
@@ -171,7 +168,9 @@ module _ (ps : List Float) (c w : List ℕ) (numbers : ℕ) where
             count = I .count ∙ n;
             fits = omega (arith, I .count, n, a);
             points = I .points ∙ ap (λ (t : List ℕ). gathered ps (met [] t)) e;
+            notes = λ v q. I .notes v q ∙ ap (λ (t : List ℕ). noted (met [] t) v) e;
             others = I .others;
+            lengths = (I .size-p, I .size-c, I .size-w);
           }
 
       module _ (given : k < length c′) where

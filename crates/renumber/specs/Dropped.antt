@@ -39,8 +39,9 @@ pub record Droppable (c ls w : List ℕ) (into gone : ℕ) : Type 0 where
   pub renames : (k : ℕ) → k < length c → into + at c k < length w
   pub marks : gone + length ls ≤ length w
 
--- r triangles and labels stay, at the front
+-- r triangles and labels stay, at the front; what stands behind them is free, and the lists keep their lengths
 pub record Dropped (c ls w c′ ls′ : List ℕ) (into gone r : ℕ) : Type 0 where
   pub count : r ≡ length (retain (goneAt w gone (length ls)) ls)
   pub corners : take (3 * r) c′ ≡ Triangle.corners (retain (goneAt w gone (length ls)) (renumbered (becomes w into) (triangles c)))
   pub labels : take r ls′ ≡ retain (goneAt w gone (length ls)) ls
+  pub lengths : (length c′ ≡ length c) × (length ls′ ≡ length ls)

@@ -2,11 +2,13 @@
 use Prim.Native.Nat.{ℕ, suc, _+_, _*_, _/_, _%_, _<_, _≤_}
 use mathlib.Core.Path.{_≡_}
 use mathlib.Core.Logic.{_⊎_}
+use mathlib.Core.Bool.{cond}
 use mathlib.Core.List.{List, []}
+use lib.Dec.{ltb}
 use lib.ListN.{length, getD, take, set}
 use lib.Ieee.{Float, nan}
 use Rattle.halfedges.specs.Place.{at}
-use Rattle.rounds.specs.Renumber.{met, walk}
+use Rattle.rounds.specs.Renumber.{index, met, walk}
 use Rattle.oracle.specs.Points.{gathered}
 use Rattle.scores.specs.Words.{floatAt, Kept, Held}
 
@@ -19,13 +21,19 @@ pub record Numberable (ps : List Float) (c w : List ℕ) (numbers saved : ℕ) :
   pub blank : (v : ℕ) → v < length ps / 3 → at w (numbers + v) ≡ 0
   pub kept : (j : ℕ) → j < length ps → Kept w (saved + j * 2) (getD ps j nan)
 
--- r corners are met, in that order they have the first points, and the words that are no new number are as they were
+-- the word of a corner's new number: one more than its place among those met, and 0 where it is not met
+abbrev pub noted : List ℕ → ℕ → ℕ
+noted seen v = cond (ltb (index seen v) (length seen)) (suc (index seen v)) 0
+
+-- r corners are met, and in that order they have the first points; the points behind these are free. Each word of the new numbers holds its corner's, and all other words are as they were. The lists keep their lengths.
 pub record Numbered (ps : List Float) (c w : List ℕ) (ps′ : List Float) (c′ w′ : List ℕ) (numbers r : ℕ) : Type 0 where
   pub corners : c′ ≡ walk [] c
   pub count : r ≡ length (met [] c)
   pub fits : r * 3 ≤ length ps
   pub points : take (r * 3) ps′ ≡ gathered ps (met [] c)
+  pub notes : (v : ℕ) → v < length ps / 3 → at w′ (numbers + v) ≡ noted (met [] c) v
   pub others : (j : ℕ) → (j < numbers) ⊎ (numbers + length ps / 3 ≤ j) → at w′ j ≡ at w j
+  pub lengths : (length ps′ ≡ length ps) × (length c′ ≡ length c) × (length w′ ≡ length w)
 
 -- point q becomes the saved point v
 abbrev pub loaded : List Float → List ℕ → ℕ → ℕ → ℕ → List Float
