@@ -10,12 +10,9 @@ use Rattle.surface.specs.Triangle.{Tri}
 use Rattle.surface.specs.Closed.{sides, Closed}
 use Rattle.surface.specs.Edit.{Hinge, hinge}
 use Rattle.surface.proofs.Bools.{both, join}
-use Rattle.surface.proofs.Reading.{Has, spin, has-eq, has-side, side-has, third}
+use Rattle.surface.proofs.Reading.{spin, has-side, side-has}
 use Rattle.surface.proofs.Bridge.{closed-surface}
-use Rattle.surface.proofs.Places.{place-has}
-use Rattle.surface.proofs.Hinged.{Hinged}
 use Rattle.surface.proofs.Edits.{Filled, one-way, other-way}
-use Rattle.surface.proofs.Laws.{hinge-found}
 use Rattle.history.specs.History.{Pair, covered, exists}
 use Rattle.rounds.specs.Pass.{State, result}
 use Rattle.rounds.specs.Choices.{Side, Decision, common, filled, collapseStep, collapseStart}
@@ -26,6 +23,7 @@ use Rattle.oracle.specs.Candidates.{candidates}
 use Rattle.oracle.specs.Slivers.{valid, better, tetrahedron, accepts, pass, collapses}
 use Rattle.oracle.specs.Round.{Mesh, Sheet, Result, seen, count, dropped, numbered, flipped, flips, round, rounds}
 use Rattle.oracle.specs.Spared.{Four, originals, Spared, SparedRounds, begun, further}
+use Rattle.oracle.proofs.Thirds.{with-c, with-d, third-corner}
 use Rattle.oracle.proofs.Safe.{safe}
 
 module _ (s : Scene) (p : Pair) where
@@ -101,29 +99,6 @@ module _ {ts : List Tri} (c : Closed ts) (a b : ℕ) (given : 0 < sides ts a b) 
   abbrev h : Hinge
   h = hinge ts a b
 
-  k : Hinged ts a b (hinge ts a b)
-  k = hinge-found c a b given
-
-  ahead : Has (h .u) (h .v) (h .c) ts
-  ahead = place-has ts (h .p1) (omega (arith, k .order, k .fits)) (k .ahead)
-
-  back : Has (h .v) (h .u) (h .d) ts
-  back = place-has ts (h .p2) (k .fits) (k .back)
-
-  with-c : Filled ts a b (h .c)
-  with-c = pick (k .ends)
-    where
-      pick : ((h .u ≡ a) × (h .v ≡ b)) ⊎ ((h .u ≡ b) × (h .v ≡ a)) → Filled ts a b (h .c)
-      pick (inl e) = one-way (has-eq (e .0) (e .1) refl ahead)
-      pick (inr e) = other-way (spin (has-eq (e .0) (e .1) refl ahead))
-
-  with-d : Filled ts a b (h .d)
-  with-d = pick (k .ends)
-    where
-      pick : ((h .u ≡ a) × (h .v ≡ b)) ⊎ ((h .u ≡ b) × (h .v ≡ a)) → Filled ts a b (h .d)
-      pick (inl e) = other-way (spin (has-eq (e .1) (e .0) refl back))
-      pick (inr e) = one-way (has-eq (e .1) (e .0) refl back)
-
   ends-differ : a ≡ b → ⊥
   ends-differ q = let g = side-has ts a b given in closed-surface c .differ a b (g .0) (g .1) q
 
@@ -135,27 +110,14 @@ module _ {ts : List Tri} (c : Closed ts) (a b : ℕ) (given : 0 < sides ts a b) 
     bc = w .bc;
     bd = w .bd;
     cd = w .cd;
-    abc = filled-is with-c;
-    abd = filled-is with-d;
+    abc = filled-is (with-c c a b given);
+    abd = filled-is (with-d c a b given);
     acd = e;
     bcd = f;
   }
 
-  -- a third corner with the side is opposite to it
-  opposite : (x : ℕ) → Filled ts a b x → (x ≡ h .c) ⊎ (x ≡ h .d)
-  opposite x (one-way t) = pick (k .ends)
-    where
-      pick : ((h .u ≡ a) × (h .v ≡ b)) ⊎ ((h .u ≡ b) × (h .v ≡ a)) → (x ≡ h .c) ⊎ (x ≡ h .d)
-      pick (inl e) = inl (third (closed-surface c .once a b) t (has-eq (e .0) (e .1) refl ahead))
-      pick (inr e) = inr (third (closed-surface c .once a b) t (has-eq (e .1) (e .0) refl back))
-  opposite x (other-way t) = pick (k .ends)
-    where
-      pick : ((h .u ≡ a) × (h .v ≡ b)) ⊎ ((h .u ≡ b) × (h .v ≡ a)) → (x ≡ h .c) ⊎ (x ≡ h .d)
-      pick (inl e) = inr (third (closed-surface c .once b a) (spin (spin t)) (has-eq (e .1) (e .0) refl back))
-      pick (inr e) = inl (third (closed-surface c .once b a) (spin (spin t)) (has-eq (e .0) (e .1) refl ahead))
-
   solid : {x y : ℕ} → Four ts a b x y → (filled ts a (h .c) (h .d) ≡ true) × (filled ts b (h .c) (h .d) ≡ true)
-  solid {x} {y} q = pick (opposite x (filled-has ts a b x (q .ab) (q .bc) (λ e. q .ac (sym e)) (q .abc))) (opposite y (filled-has ts a b y (q .ab) (q .bd) (λ e. q .ad (sym e)) (q .abd)))
+  solid {x} {y} q = pick (third-corner c a b given x (filled-has ts a b x (q .ab) (q .bc) (λ e. q .ac (sym e)) (q .abc))) (third-corner c a b given y (filled-has ts a b y (q .ab) (q .bd) (λ e. q .ad (sym e)) (q .abd)))
     where
       pick : (x ≡ h .c) ⊎ (x ≡ h .d) → (y ≡ h .c) ⊎ (y ≡ h .d) → (filled ts a (h .c) (h .d) ≡ true) × (filled ts b (h .c) (h .d) ≡ true)
       pick (inl e) (inl g) = absurd (q .cd (e ∙ sym g))

@@ -13,9 +13,8 @@ use Rattle.surface.specs.Closed.{sides, Closed}
 use Rattle.surface.specs.Check.{every}
 use Rattle.surface.specs.Edit.{place, Hinge, hinge}
 use Rattle.surface.proofs.Bools.{both, join, not-true, or-cases, or-second, true-false}
-use Rattle.surface.proofs.Reading.{Reads, turn, Has, spin, has-eq, has-side, side-has, third}
+use Rattle.surface.proofs.Reading.{Reads, turn, Has, spin, has-side, side-has}
 use Rattle.surface.proofs.Bridge.{reads-name, reads-names, closed-surface}
-use Rattle.surface.proofs.Places.{place-has}
 use Rattle.surface.proofs.Hinged.{Hinged}
 use Rattle.surface.proofs.Edits.{Filled, one-way, other-way}
 use Rattle.surface.proofs.Laws.{hinge-found}
@@ -27,6 +26,7 @@ use Rattle.rounds.proofs.Local.{all-of, implies}
 use Rattle.rounds.proofs.FirstUse.{has-corner}
 use Rattle.rounds.proofs.Exact.{Apart, hinge-apart}
 use Rattle.oracle.specs.Candidates.{chosen}
+use Rattle.oracle.proofs.Thirds.{with-c, with-d, third-corner}
 use Rattle.original.specs.Sets.{member, sameSet, intersection}
 use Rattle.original.specs.Maps.{adjacent}
 use Rattle.original.specs.Collapse.{cornersAt, opposite}
@@ -51,42 +51,9 @@ module _ {ts : List Tri} (c : Closed ts) (a b : ℕ) (given : 0 < sides ts a b) 
   k : Hinged ts a b (hinge ts a b)
   k = hinge-found c a b given
 
-  ahead : Has (h .u) (h .v) (h .c) ts
-  ahead = place-has ts (h .p1) (omega (arith, k .order, k .fits)) (k .ahead)
-
-  back : Has (h .v) (h .u) (h .d) ts
-  back = place-has ts (h .p2) (k .fits) (k .back)
-
-  with-c : Filled ts a b (h .c)
-  with-c = pick (k .ends)
-    where
-      pick : ((h .u ≡ a) × (h .v ≡ b)) ⊎ ((h .u ≡ b) × (h .v ≡ a)) → Filled ts a b (h .c)
-      pick (inl e) = one-way (has-eq (e .0) (e .1) refl ahead)
-      pick (inr e) = other-way (spin (has-eq (e .0) (e .1) refl ahead))
-
-  with-d : Filled ts a b (h .d)
-  with-d = pick (k .ends)
-    where
-      pick : ((h .u ≡ a) × (h .v ≡ b)) ⊎ ((h .u ≡ b) × (h .v ≡ a)) → Filled ts a b (h .d)
-      pick (inl e) = other-way (spin (has-eq (e .1) (e .0) refl back))
-      pick (inr e) = one-way (has-eq (e .1) (e .0) refl back)
-
-  -- a triangle on both ends has c or d for its third corner
-  filled-third : (x : ℕ) → Filled ts a b x → (x ≡ h .c) ⊎ (x ≡ h .d)
-  filled-third x (one-way t) = pick (k .ends)
-    where
-      pick : ((h .u ≡ a) × (h .v ≡ b)) ⊎ ((h .u ≡ b) × (h .v ≡ a)) → (x ≡ h .c) ⊎ (x ≡ h .d)
-      pick (inl e) = inl (third (closed-surface c .once a b) t (has-eq (e .0) (e .1) refl ahead))
-      pick (inr e) = inr (third (closed-surface c .once a b) t (has-eq (e .1) (e .0) refl back))
-  filled-third x (other-way t) = pick (k .ends)
-    where
-      pick : ((h .u ≡ a) × (h .v ≡ b)) ⊎ ((h .u ≡ b) × (h .v ≡ a)) → (x ≡ h .c) ⊎ (x ≡ h .d)
-      pick (inl e) = inr (third (closed-surface c .once b a) (spin (spin t)) (has-eq (e .1) (e .0) refl back))
-      pick (inr e) = inl (third (closed-surface c .once b a) (spin (spin t)) (has-eq (e .0) (e .1) refl ahead))
-
   third-filled : (x : ℕ) → (x ≡ h .c) ⊎ (x ≡ h .d) → Filled ts a b x
-  third-filled x (inl e) = rw e with-c
-  third-filled x (inr e) = rw e with-d
+  third-filled x (inl e) = rw e (with-c c a b given)
+  third-filled x (inr e) = rw e (with-d c a b given)
 
   -- no corner is beside itself
   not-self : (x y : ℕ) → 0 < sides ts x y → x ≡ y → ⊥
@@ -126,7 +93,7 @@ module _ {ts : List Tri} (c : Closed ts) (a b : ℕ) (given : 0 < sides ts a b) 
           pick (no i) (yes w) = or-right (eqb e a) (eqb e b || (eqb e (h .c) || eqb e (h .d))) (or-left (eqb e b) (eqb e (h .c) || eqb e (h .d)) (eq-eqb e b w))
           pick (no i) (no j) =
               let m = both (near ts a e) (near ts b e) g in
-              or-right (eqb e a) (eqb e b || (eqb e (h .c) || eqb e (h .d))) (or-right (eqb e b) (eqb e (h .c) || eqb e (h .d)) (last (filled-third e
+              or-right (eqb e a) (eqb e b || (eqb e (h .c) || eqb e (h .d))) (or-right (eqb e b) (eqb e (h .c) || eqb e (h .d)) (last (third-corner c a b given e
               (f e (near-side (closed-surface c) a e (λ w. i (sym w)) (m .0)) (near-side (closed-surface c) b e (λ w. j (sym w)) (m .1))))))
 
   -- `opposite` has c and d
@@ -164,7 +131,7 @@ module _ {ts : List Tri} (c : Closed ts) (a b : ℕ) (given : 0 < sides ts a b) 
 
   pub member-opposite : (x : ℕ) → (member (opposite ts (h .p1 ∷ h .p2 ∷ []) a b) x ≡ true) ↔ Filled ts a b x
   unfolding opposite
-  member-opposite x = ((λ e. to (sym is ∙ e)), λ f. is ∙ from (filled-third x f))
+  member-opposite x = ((λ e. to (sym is ∙ e)), λ f. is ∙ from (third-corner c a b given x f))
     where
       is : member (chosen (λ (v : ℕ). not (eqb v a) && not (eqb v b)) (cornersAt ts (h .p1 ∷ h .p2 ∷ []))) x ≡ ((not (eqb x a) && not (eqb x b)) && (names (place ts (h .p1)) x || names (place ts (h .p2)) x))
       is = member-chosen (λ (v : ℕ). not (eqb v a) && not (eqb v b)) (cornersAt ts (h .p1 ∷ h .p2 ∷ [])) x ∙ ap (λ (q : Bool). (not (eqb x a) && not (eqb x b)) && q) (six x)
