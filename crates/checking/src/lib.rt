@@ -10,7 +10,7 @@ use halfedges::wide;
 use questions::{Asked, Refusal};
 
 // Accepted with the smallest quality and the volume, or refused.
-#[derive(Drop)]
+#[derive(Clone, Copy)]
 pub enum Verdict {
     Accepted(f64, f64),
     Refused(Refusal),

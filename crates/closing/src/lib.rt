@@ -243,7 +243,7 @@ fn smallest_end(corners: &[u32], points: usize, lone: bool, u: usize, work: &mut
 }
 
 // A directed side, or none.
-#[derive(Drop)]
+#[derive(Clone, Copy)]
 enum Side {
     Found(u32, u32),
     Nowhere,

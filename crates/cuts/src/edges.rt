@@ -9,7 +9,7 @@ use lattice::edges::offset;
 use solve::{Cut, point_between, solve};
 
 // The cut of an edge: its point, whether there is one, and how many field values were taken.
-#[derive(Drop)]
+#[derive(Clone, Copy)]
 pub struct EdgeCut {
     pub point: Point,
     pub whole: bool,

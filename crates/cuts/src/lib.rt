@@ -11,7 +11,7 @@ use lattice::{Lattice, ask_and_fill, blank_behind};
 
 // How many nodes and how many edges the lists have, each edge with its cut, and how many field values were taken for
 // these; or the number of the refusal.
-#[derive(Drop)]
+#[derive(Clone, Copy)]
 pub enum Cuts {
     Complete(usize, usize, u64),
     Refused(u32),

@@ -88,7 +88,7 @@ fn take_back_many(
 }
 
 // What an entry came to: its verdict word, the number of triangles and of edits in force after it.
-#[derive(Drop)]
+#[derive(Clone, Copy)]
 struct Step {
     verdict: u32,
     n: usize,
@@ -221,7 +221,7 @@ fn entry(
 }
 
 // What a run leaves: the number of triangles and of edits in force.
-#[derive(Drop)]
+#[derive(Clone, Copy)]
 struct Left {
     n: usize,
     k: usize,
@@ -258,7 +258,7 @@ fn run(
 }
 
 // The answer of an edit run: triangles left and edits in force, or why the call is refused.
-#[derive(Drop)]
+#[derive(Clone, Copy)]
 pub enum Outcome {
     Edited(usize, usize),
     Refused(Refusal),

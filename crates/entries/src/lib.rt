@@ -174,7 +174,7 @@ fn collapse_in(corners: &mut [u32], labels: &mut [u8], n: usize, a: u32, b: u32,
 }
 
 // What an entry came to: its verdict word, the number of triangles then, and its record, which is 0 where it was refused.
-#[derive(Drop)]
+#[derive(Clone, Copy)]
 pub struct Came {
     pub verdict: u32,
     pub n: usize,

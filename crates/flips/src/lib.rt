@@ -20,7 +20,7 @@ use sides::{count_valences, list_sides};
 use words::{put, word};
 
 // The four corners of a side's two triangles: the earlier runs from u to v, with c opposite, and d is opposite in the later. `across` is the place of c.
-#[derive(Drop)]
+#[derive(Clone, Copy)]
 pub struct Quad {
     pub one: usize,
     pub two: usize,

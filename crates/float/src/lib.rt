@@ -129,7 +129,7 @@ pub fn is_finite(x: f64) -> bool
 }
 
 // A point or a vector of space.
-#[derive(Drop)]
+#[derive(Clone, Copy)]
 pub struct Point {
     pub x: f64,
     pub y: f64,

@@ -14,7 +14,7 @@ use questions::{Asked, Refusal};
 use renumber::{drop_gone, number_corners, save_points};
 
 // What is left after rounds: points, triangles, and how many flips there were.
-#[derive(Drop)]
+#[derive(Clone, Copy)]
 pub struct Left {
     pub points: usize,
     pub triangles: usize,
@@ -126,7 +126,7 @@ fn rounds(
 }
 
 // The answer of improving: points left, triangles left and the count of flips, or why the call is refused.
-#[derive(Drop)]
+#[derive(Clone, Copy)]
 pub enum Outcome {
     Improved(usize, usize, u32),
     Refused(Refusal),

@@ -13,7 +13,7 @@ use levels::set_onto_levels;
 use nodes::fill_nodes;
 
 // How many nodes and how many crossed edges the lists have, or the number of the refusal.
-#[derive(Drop)]
+#[derive(Clone, Copy)]
 pub enum Lattice {
     Sampled(usize, usize),
     Refused(u32),

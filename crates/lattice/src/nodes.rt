@@ -6,7 +6,7 @@ ghost use Rattle.lattice.specs.Stages.{next_index, InLattice, Fillable, NodesFil
 use float::Point;
 
 // A node's index along x, y and z.
-#[derive(Drop)]
+#[derive(Clone, Copy)]
 pub struct Index {
     pub x: usize,
     pub y: usize,

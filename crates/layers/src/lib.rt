@@ -9,7 +9,7 @@ use closing::{clear, clear_needed};
 use questions::{Asked, Refusal};
 
 // How many list places are filled and how many loops they hold, or why the call is refused.
-#[derive(Drop)]
+#[derive(Clone, Copy)]
 pub enum Layer {
     Listed(usize, usize),
     Refused(Refusal),

@@ -11,7 +11,7 @@ use questions::Refusal;
 use volume::Sixfold;
 
 // The price in cents, or why there is none.
-#[derive(Drop)]
+#[derive(Clone, Copy)]
 pub enum Quote {
     Price(u64),
     Refused(Refusal),

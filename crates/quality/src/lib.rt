@@ -5,7 +5,7 @@ ghost use Rattle.quality.specs.Quality.{scale, normal, squares, quality, wedge, 
 ghost use Rattle.quality.specs.Quick.{sized_of, Passes};
 
 // The least quality with one more triangle, or that its quality is not finite or not above 0.
-#[derive(Drop)]
+#[derive(Clone, Copy)]
 pub enum Rated {
     Kept(f64),
     Degenerate,

@@ -11,7 +11,7 @@ use halfedges::wide;
 use surface::Finding;
 
 // Why a call is refused: the number of the question that it fails, or what is found in question 7's turn.
-#[derive(Drop)]
+#[derive(Clone, Copy)]
 pub enum Refusal {
     Question(u32),
     Repeated(u32, u32),
@@ -46,7 +46,7 @@ impl Refusal {
 }
 
 // What questions in turn come to: all are passed, or the first "no".
-#[derive(Drop)]
+#[derive(Clone, Copy)]
 pub enum Asked {
     Passed,
     Refused(Refusal),

@@ -9,7 +9,7 @@ ghost use Rattle.reading.specs.Given.{reading_in, Gives};
 ghost use Rattle.reading.specs.Stages.{placed_first, copied_first};
 
 // The counts of points and of triangles of the sheet that was read, or the number of the refusal.
-#[derive(Drop)]
+#[derive(Clone, Copy)]
 pub enum Answer {
     Sheet(usize, usize),
     Refused(u32),

@@ -9,13 +9,13 @@ use vectors::Listed;
 
 // A vector that was replayed: the word after it, and whether the answer is the model's. Or none
 // that is whole and not too long.
-#[derive(Drop)]
+#[derive(Clone, Copy)]
 enum Replayed {
     To(usize, bool),
     No,
 }
 
-#[derive(Drop)]
+#[derive(Clone, Copy)]
 struct Tally {
     vectors: u64,
     same: u64,

@@ -7,35 +7,35 @@ ghost use Rattle.sheet.specs.Edition.{edition};
 ghost use Rattle.sheet.specs.Stages.{word_is, number_is, coordinate_is, negative_is, point_is, points_is, triangle_is, triangles_is, head_is, sheet_is, TellsEdition, found_is};
 
 // The place after what was read, or that it does not stand there.
-#[derive(Drop)]
+#[derive(Clone, Copy)]
 enum Past {
     At(usize),
     No,
 }
 
 // A number that was read, and the place after it and the byte that ends it.
-#[derive(Drop)]
+#[derive(Clone, Copy)]
 enum Numeral {
     Is(u64, usize),
     No,
 }
 
 // The counts of points and of triangles, and the place of the first point.
-#[derive(Drop)]
+#[derive(Clone, Copy)]
 enum Counted {
     Is(usize, usize, usize),
     No,
 }
 
 // The counts of points and of triangles of a sheet whose numbers fill the lists.
-#[derive(Drop)]
+#[derive(Clone, Copy)]
 enum Filled {
     Is(usize, usize),
     No,
 }
 
 // The edition of a sheet, and the counts of its points and of its triangles.
-#[derive(Drop)]
+#[derive(Clone, Copy)]
 pub enum Found {
     Is(u32, usize, usize),
     No,

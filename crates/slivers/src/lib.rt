@@ -46,7 +46,7 @@ fn covers(carried: usize, a: usize, b: usize, work: &[u32]) -> bool
 }
 
 // What a collapse makes of the triangles that lose a corner: whether each stays well enough shaped, and where it does the least of their shapes.
-#[derive(Drop)]
+#[derive(Clone, Copy)]
 pub struct Trial {
     pub valid: bool,
     pub least: f64,

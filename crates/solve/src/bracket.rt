@@ -4,7 +4,7 @@ ghost use Rattle.std.specs.Prelude.{◌≡◌};
 ghost use Rattle.solve.specs.Solve as Solve;
 
 // The parameters at its two ends, and the residuals there.
-#[derive(Drop)]
+#[derive(Clone, Copy)]
 pub struct Bracket {
     pub lo: f64,
     pub hi: f64,

@@ -10,7 +10,7 @@ use float::Point;
 use lattice::levels::{magnitude, tolerance};
 
 // What an edge ends with: its first node, its second node, a parameter between them, or a residual that is not finite.
-#[derive(Drop)]
+#[derive(Clone, Copy)]
 pub enum Cut {
     First,
     Second,
@@ -19,7 +19,7 @@ pub enum Cut {
 }
 
 // The cut, and how many field values were taken for it.
-#[derive(Drop)]
+#[derive(Clone, Copy)]
 pub struct Solved {
     pub cut: Cut,
     pub taken: u64,

@@ -3,7 +3,7 @@ ghost use Rattle.std.specs.Prelude.{◌≡◌, ◌+◌, ◌*◌, ◌<◌, length
 ghost use Rattle.surface.specs.Flat.{tri_of, three_at, put_at};
 
 // The answer of the judgement: the surface is closed, a directed side is repeated, a directed side lacks its reverse, or a corner has more than one ring.
-#[derive(Drop)]
+#[derive(Clone, Copy)]
 pub enum Finding {
     Closed,
     Repeated(u32, u32),

@@ -5,7 +5,7 @@ ghost use Rattle.std.specs.Prelude.{◌≡◌, true, ◌↔◌, ◌+◌, ◌*◌
 ghost use Rattle.vectors.specs.Words.{digit_of, count_of, word_at, joined as Words·joined, float_at, byte_at, elements, listed_is, Reads, IsAt, lent_at, left_at, clears_of};
 
 // A list that was read, by its length and the word after it, or none.
-#[derive(Drop)]
+#[derive(Clone, Copy)]
 pub enum Listed {
     Is(usize, usize),
     No,

@@ -104,7 +104,7 @@ pub fn first_on(corners: &[u32], n: usize, from: usize, a: u32, b: u32) -> usize
 }
 
 // The side of a and b with its two triangles: p1 the earlier, which runs from u to v, p2 the later, and the corners c and d opposite to the side in them.
-#[derive(Drop)]
+#[derive(Clone, Copy)]
 pub struct Found {
     pub p1: usize,
     pub p2: usize,
@@ -247,7 +247,7 @@ fn flag_and_note(flags: &mut [bool; 8], notes: &mut [u32], t: [u32; 3], label: u
 }
 
 // The labels that the corner that a collapse keeps and the one that it removes carry, a flag for each label.
-#[derive(Drop)]
+#[derive(Clone, Copy)]
 struct CornerLabels {
     kept: [bool; 8],
     removed: [bool; 8],

@@ -10,7 +10,7 @@ use checking::point;
 use halfedges::wide;
 
 // Six times a volume, as a whole number of (1/1024)^3: high * 2^31 + low.
-#[derive(Drop)]
+#[derive(Clone, Copy)]
 pub struct Sixfold {
     pub high: i64,
     pub low: u64,

@@ -18,7 +18,7 @@ ghost use Rattle.writing.specs.Written.{list_text, Leaves};
 ghost use Rattle.writing.specs.Stages.{Put, SettledText};
 
 // The length of the text that was written, or the number of the refusal.
-#[derive(Drop)]
+#[derive(Clone, Copy)]
 pub enum Written {
     Is(usize),
     Refused(u32),
