@@ -1,5 +1,5 @@
 /* Checks the tetrahedron of document 01 from C:
- *   rt staticlib lanovishel && cc -Iinclude examples/check.c target/staticlib/liblanovishel.a -o check && ./check */
+ *   tools/build lanovishel && cc -Iinclude examples/check.c target/staticlib/liblanovishel.a -o check && ./check */
 #include "lanovishel.h"
 #include <stdio.h>
 

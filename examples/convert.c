@@ -1,5 +1,5 @@
 /* Converts the sheet on standard input to the other edition, and says how long it then is and what its head is:
- *   rt staticlib lanovishel && cc -Iinclude examples/convert.c target/staticlib/liblanovishel.a -o convert
+ *   tools/build lanovishel && cc -Iinclude examples/convert.c target/staticlib/liblanovishel.a -o convert
  *   ./convert < examples/octahedron.sheet */
 #include "lanovishel.h"
 #include <inttypes.h>

@@ -1,6 +1,6 @@
 /* Where the sphere x·x + y·y + z·z = 1/2 cuts the edges of a lattice with 5 nodes a side, in a box of side 2, from C. The
  * first edge goes from (-1/2, -1/2, -1) to (0, 0, -1/2), and the sphere cuts it after two thirds:
- *   rt staticlib lanovishel && cc -Iinclude examples/cut.c target/staticlib/liblanovishel.a -o cut && ./cut */
+ *   tools/build lanovishel && cc -Iinclude examples/cut.c target/staticlib/liblanovishel.a -o cut && ./cut */
 #include "lanovishel.h"
 #include <inttypes.h>
 #include <math.h>

@@ -1,5 +1,5 @@
 /* An edit run from C, on the octahedron of document 01: a flip, one that would leave it not closed, and a collapse.
- *   rt staticlib lanovishel && cc -Iinclude examples/edit.c target/staticlib/liblanovishel.a -o edit && ./edit */
+ *   tools/build lanovishel && cc -Iinclude examples/edit.c target/staticlib/liblanovishel.a -o edit && ./edit */
 #include "lanovishel.h"
 #include <inttypes.h>
 #include <stdio.h>

@@ -1,5 +1,5 @@
 /* One round of improving from C, on an octahedron with a seventh point too close to the first:
- *   rt staticlib lanovishel && cc -Iinclude examples/improve.c target/staticlib/liblanovishel.a -o improve && ./improve */
+ *   tools/build lanovishel && cc -Iinclude examples/improve.c target/staticlib/liblanovishel.a -o improve && ./improve */
 #include "lanovishel.h"
 #include <stdio.h>
 

@@ -1,6 +1,6 @@
 /* The nearest corners of a tetrahedron to two probes from C, with squared distances in (1/1024)^2. The first probe is
  * midway between corners 0 and 1, the second a quarter off corner 3:
- *   rt staticlib lanovishel && cc -Iinclude examples/nearest.c target/staticlib/liblanovishel.a -o nearest && ./nearest */
+ *   tools/build lanovishel && cc -Iinclude examples/nearest.c target/staticlib/liblanovishel.a -o nearest && ./nearest */
 #include "lanovishel.h"
 #include <inttypes.h>
 #include <stdio.h>

@@ -1,5 +1,5 @@
 /* The outline of an octahedron from C. The plane z = 512.5/1024 crosses the four sides at its top, corner 4, in a loop:
- *   rt staticlib lanovishel && cc -Iinclude examples/outlines.c target/staticlib/liblanovishel.a -o outlines
+ *   tools/build lanovishel && cc -Iinclude examples/outlines.c target/staticlib/liblanovishel.a -o outlines
  *   ./outlines */
 #include "lanovishel.h"
 #include <stdio.h>

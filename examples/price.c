@@ -1,5 +1,5 @@
 /* The price of a box of 1 x 2 x 5.25 from C, at 500 cents for each unit cube up to ten and 300 for each above:
- *   rt staticlib lanovishel && cc -Iinclude examples/price.c target/staticlib/liblanovishel.a -o price && ./price */
+ *   tools/build lanovishel && cc -Iinclude examples/price.c target/staticlib/liblanovishel.a -o price && ./price */
 #include "lanovishel.h"
 #include <inttypes.h>
 #include <stdio.h>

@@ -1,6 +1,6 @@
 /* The ball x·x + y·y + z·z up to 1/2, in a box of side 2, sampled on 5 nodes a side from C. Inside are the middle, which
  * has 14 edges, 6 of them to the other nodes inside, and the 6 nodes next to it, which have 14 each, 3 of them inside:
- *   rt staticlib lanovishel && cc -Iinclude examples/sample.c target/staticlib/liblanovishel.a -o sample && ./sample */
+ *   tools/build lanovishel && cc -Iinclude examples/sample.c target/staticlib/liblanovishel.a -o sample && ./sample */
 #include "lanovishel.h"
 #include <math.h>
 #include <stdio.h>

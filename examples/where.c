@@ -1,5 +1,5 @@
 /* Says where the surface of a sheet is open. The sheet is of either edition, on standard input.
- *   rt staticlib lanovishel && cc -Iinclude examples/where.c target/staticlib/liblanovishel.a -o where
+ *   tools/build lanovishel && cc -Iinclude examples/where.c target/staticlib/liblanovishel.a -o where
  *   ./where < examples/open.sheet */
 #include "lanovishel.h"
 #include <stdio.h>

@@ -1,5 +1,5 @@
 /* Writes the tetrahedron of document 01 as a sheet of the first edition, in whole 1/1024 units:
- *   rt staticlib lanovishel && cc -Iinclude examples/write.c target/staticlib/liblanovishel.a -o write && ./write */
+ *   tools/build lanovishel && cc -Iinclude examples/write.c target/staticlib/liblanovishel.a -o write && ./write */
 #include "lanovishel.h"
 #include <stdio.h>
 

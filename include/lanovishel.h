@@ -1,4 +1,4 @@
-/* Lanovishel for C: link liblanovishel.a, which `rt staticlib lanovishel` makes.
+/* Lanovishel for C: link liblanovishel.a, which `tools/build lanovishel` makes.
  *
  * A list is a pointer and a length. No function asks anything of its caller but that each pointer is valid
  * for its length and that no list that is written overlaps another. A call answers 0 where it is accepted, and

@@ -1,4 +1,4 @@
-//! Makes the proved static library with `rt staticlib lanovishel` and links it.
+//! Makes the proved static library with `tools/build lanovishel` and links it.
 //! `LANOVISHEL_STATICLIB` may name a ready archive instead.
 use std::{
     env, fs,
@@ -15,7 +15,7 @@ fn main() {
         None => prove(&Path::new(env!("CARGO_MANIFEST_DIR")).join("../..")),
     };
     println!("cargo::rerun-if-changed={}", made.display());
-    // A copy of our own: `rt ci` removes the project's target folder.
+    // A copy under the name that is linked.
     let folder = PathBuf::from(env::var_os("OUT_DIR").unwrap());
     fs::copy(&made, folder.join(ARCHIVE))
         .unwrap_or_else(|error| panic!("{}: {error}", made.display()));
@@ -23,19 +23,23 @@ fn main() {
     println!("cargo::rustc-link-lib=static=lanovishel");
 }
 
-/// Proves the crate `lanovishel` of the project and names the archive that this wrote.
+/// Proves the crate `lanovishel` of the project and what exports it, and names the archive that this wrote.
 fn prove(project: &Path) -> PathBuf {
-    for source in ["crates.txt", "crates"] {
-        println!("cargo::rerun-if-changed={}", project.join(source).display());
+    let mut sources = vec![project.join("crates.txt")];
+    for folder in fs::read_dir(project.join("crates")).unwrap() {
+        let folder = folder.unwrap().path();
+        sources.extend(["src", "specs", "proofs"].map(|part| folder.join(part)));
     }
-    let proved = Command::new("rt")
-        .args(["staticlib", "lanovishel"])
-        .current_dir(project)
+    for source in sources.iter().filter(|source| source.exists()) {
+        println!("cargo::rerun-if-changed={}", source.display());
+    }
+    let proved = Command::new(project.join("tools/build"))
+        .arg("lanovishel")
         .output()
-        .expect("the Rattle kit's `rt` is on the path");
+        .expect("tools/build is in the project");
     assert!(
         proved.status.success(),
-        "rt staticlib lanovishel failed:\n{}{}",
+        "tools/build lanovishel failed:\n{}{}",
         String::from_utf8_lossy(&proved.stdout),
         String::from_utf8_lossy(&proved.stderr)
     );

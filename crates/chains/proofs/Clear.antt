@@ -2,7 +2,7 @@
 use Prim.Native.Nat.{ℕ, ◌+◌, ◌-◌, ◌<◌, ◌≤◌}
 use native.Mathlib.Omega.{arith}
 use mathlib.Core.Path.{◌≡◌, sym, ap, ◌∙◌, subst}
-use mathlib.Core.List.{List, [], ◌∷◌, ◌++◌, append_assoc, append_nil}
+use mathlib.Core.List.{List, [], ◌∷◌, ◌++◌, append_assoc, append-nil}
 use lib.ListN.{length, take, drop, replicate, length-replicate, get_or-replicate, get_or-append, length-append, length-take, length-drop}
 use lib.Seq.{get_or-append-add, get_or-drop, get_or-take, take_all, length-take-le}
 use Rattle.halfedges.specs.Place.{at}
@@ -65,7 +65,7 @@ clear_part base p w v w' room e f = record {
             ∙ get_or-drop p (drop base w) i 0 ∙ get_or-drop base w (p + i) 0
           where
             nil_tail : (a b : List ℕ) → length b ≡ 0 → a ++ b ≡ a
-            nil_tail a [] q = append_nil a
+            nil_tail a [] q = append-nil a
             nil_tail a (x ∷ b) q = absurd (omega arith)
 
             last : at (drop p (drop base w) ++ r) i ≡ at (drop p (drop base w)) i
@@ -89,7 +89,7 @@ free_part base hi w v w' room f e = record {
     size = f.len ∙ ap length whole ∙ length-drop base w
 
     nil_tail : (a b : List ℕ) → length b ≡ 0 → a ++ b ≡ a
-    nil_tail a [] q = append_nil a
+    nil_tail a [] q = append-nil a
     nil_tail a (x ∷ b) q = absurd (omega arith)
 
     empty : length r ≡ 0

@@ -1,11 +1,14 @@
 // The printed check: reads a sheet from standard input, and prints what `printing` makes of it.
-use libc::{STDIN_FILENO, STDOUT_FILENO};
+#![tactic(auto)]
 
-fn main() {
+use std::io;
+use std::io::Write;
+
+fn main(rt: HostRuntime) -> io::Result<()> {
     // One byte more than the longest sheet has.
     let mut text = [0u8; 12982];
-    let n = io::read_full(STDIN_FILENO, &mut text);
+    let n = input::read_full(&mut rt.stdin(), &mut text)?;
     let mut printed = [0u8; 64];
     let length = printing::print(&text[..n], &mut printed);
-    io::write_all(STDOUT_FILENO, &printed[..length]);
+    rt.stdout().write_all(&printed[..length])
 }

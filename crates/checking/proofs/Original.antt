@@ -5,7 +5,7 @@ use native.Mathlib.Omega.{arith}
 use mathlib.Core.Path.{◌≡◌, refl, sym, ap, ap₂, ◌∙◌, subst}
 use mathlib.Core.Logic.{◌⊎◌, inl, inr, ◌↔◌}
 use mathlib.Core.Bool.{Bool, true, false, not, ◌&&◌, ◌||◌, cond}
-use mathlib.Core.List.{List, [], ◌∷◌, ◌++◌, foldl, append_nil, append_assoc}
+use mathlib.Core.List.{List, [], ◌∷◌, ◌++◌, foldl, append-nil, append_assoc}
 use lib.Dec.{eqb}
 use lib.ListN.{length}
 use lib.Ieee.{Float}
@@ -53,18 +53,18 @@ length-points (suc n) (x ∷ []) e = absurd (omega arith)
 length-points (suc n) (x ∷ y ∷ []) e = absurd (omega arith)
 length-points (suc n) (x ∷ y ∷ z ∷ l) e = ap suc (length-points n l (omega arith))
 
-point_at : (n : ℕ) (ps : List Float) → length ps ≡ 3 * n → (i : ℕ) → point_of (points_of ps) i ≡ point_at ps i
+point_at_lem : (n : ℕ) (ps : List Float) → length ps ≡ 3 * n → (i : ℕ) → point_of (points_of ps) i ≡ point_at ps i
 unfolding points_of
-point_at n [] e i = refl
-point_at zero (x ∷ l) e i = absurd (omega arith)
-point_at (suc n) (x ∷ []) e i = absurd (omega arith)
-point_at (suc n) (x ∷ y ∷ []) e i = absurd (omega arith)
-point_at (suc n) (x ∷ y ∷ z ∷ l) e zero = refl
-point_at (suc n) (x ∷ y ∷ z ∷ l) e (suc i) =
+point_at_lem n [] e i = refl
+point_at_lem zero (x ∷ l) e i = absurd (omega arith)
+point_at_lem (suc n) (x ∷ []) e i = absurd (omega arith)
+point_at_lem (suc n) (x ∷ y ∷ []) e i = absurd (omega arith)
+point_at_lem (suc n) (x ∷ y ∷ z ∷ l) e zero = refl
+point_at_lem (suc n) (x ∷ y ∷ z ∷ l) e (suc i) =
     let a : 3 * suc i ≡ suc (suc (suc (3 * i))) = omega arith in
     let b : 3 * suc i + 1 ≡ suc (suc (suc (3 * i + 1))) = omega arith in
     let c : 3 * suc i + 2 ≡ suc (suc (suc (3 * i + 2))) = omega arith in
-    rw (b, c, a) (point_at n l (omega arith) i)
+    rw (b, c, a) (point_at_lem n l (omega arith) i)
 
 points-finite : (n : ℕ) (ps : List Float) → length ps ≡ 3 * n → every finite? (points_of ps) ≡ every is_finite ps
 unfolding points_of every
@@ -102,7 +102,7 @@ module _ (points : List Point) (faces : List Tri) (origin : Point) where
   module _ (ps : List Float) (many : length points ≡ length ps / 3) (at : (i : ℕ) → difference (point_of points i) origin ≡ placed ps i) where
     whole-loop : (m v : Float) (sides : List Step) (ts : List Tri) → from_face points faces origin m v sides ts ≡ onwards (foldl (next ps) (Accepted m v) ts) (sides ++ directed ts)
     unfolding from_face onwards directed
-    whole-loop m v sides [] = ap (behind points faces origin m v) (sym (append_nil sides))
+    whole-loop m v sides [] = ap (behind points faces origin m v) (sym (append-nil sides))
     whole-loop m v sides (t ∷ ts) =
         one-face m v sides t ts many (at t.a) (at t.b) (at t.c)
         ∙ go (outside (length ps / 3) t) refl (degenerate (quality_at ps t)) refl (whole-loop (lesser m (quality_at ps t)) (plus v (wedge_at ps t)) (sides ++ sides_of t) ts)
@@ -214,7 +214,7 @@ module _ (x y z : Float) (l : List Float) (cs : List ℕ) (threes : length (x �
       origin = record { x = x; y = y; z = z }
 
       loop : from_origin points (triangles cs) ≡ onwards points (triangles cs) origin (measured ps cs) (directed (triangles cs))
-      loop = whole-loop points (triangles cs) origin ps count (λ i. ap (λ (p : Point). difference p origin) (point_at (length ps / 3) ps many i)) (number 1) (number 0) [] (triangles cs)
+      loop = whole-loop points (triangles cs) origin ps count (λ i. ap (λ (p : Point). difference p origin) (point_at_lem (length ps / 3) ps many i)) (number 1) (number 0) [] (triangles cs)
 
       go : (v : Verdict) → measured ps cs ≡ v → Pairs (from_origin points (triangles cs)) (as_whole (triangles cs) (measured ps cs))
       go (Accepted q v) e =

@@ -94,10 +94,10 @@ all-taken ps m v (t ∷ ts) m' v' M e = elim (cases ps m v t) [
 ]
 
 -- a refusal by a triangle is 5 or 6
-pub late : (ps : List Float) (m v : Float) (ts : List Tri) (why : Refusal) → foldl (next ps) (Accepted m v) ts ≡ Refused why → 4 < refusal_number why
-late ps m v [] why e = absurd (never (sym e))
-late ps m v (t ∷ ts) why e = elim (cases ps m v t) [
-  | inl g ↦ late ps _ _ ts why (sym (ap (λ (s : Verdict). foldl (next ps) s ts) g.goes) ∙ e)
+pub late : (ps : List Float) (ts : List Tri) (m v : Float) (why : Refusal) → foldl (next ps) (Accepted m v) ts ≡ Refused why → 4 < refusal_number why
+late ps [] m v why e = absurd (never (sym e))
+late ps (t ∷ ts) m v why e = elim (cases ps m v t) [
+  | inl g ↦ late ps ts _ _ why (sym (ap (λ (s : Verdict). foldl (next ps) s ts) g.goes) ∙ e)
   | inr g ↦
       let q : Refused (Question g.why) ≡ Refused why = sym (ap (λ (s : Verdict). foldl (next ps) s ts) g.goes ∙ refused ps (Question g.why) ts) ∙ e in
       let same : g.why ≡ refusal_number why = ap number_of q in
@@ -106,7 +106,7 @@ late ps m v (t ∷ ts) why e = elim (cases ps m v t) [
 
 pub measured_late : (ps : List Float) (cs : List ℕ) (why : Refusal) → measured ps cs ≡ Refused why → 4 < refusal_number why
 unfolding measured
-measured_late ps cs why e = late ps (number 1) (number 0) (triangles cs) why e
+measured_late ps cs why e = late ps (triangles cs) (number 1) (number 0) why e
 
 -- ---- the whole list
 

@@ -1,4 +1,6 @@
 // `validate`: whether a surface is closed and encloses a volume, its smallest quality and that volume.
+#![tactic(auto)]
+
 ghost use Rattle.std.specs.Prelude.{◌≡◌, [], ◌∷◌, ◌+◌, ◌/◌, ◌<◌, length, get_or};
 ghost use Rattle.float.specs.Point.{difference};
 ghost use Rattle.quality.specs.Quality.{scale};

@@ -3,6 +3,8 @@
 // and following the notes leads through all of them and back where every reverse is there and the triangles are one ring.
 // Where a corner fails, the place is sought from there on, corner by corner in rising order: the side from u to v is repeated where two places of u run to v, and lone where one runs to v and none comes from v.
 // The work words: from 0 on a head for each point, from points on a stamp and a note for each point, from 3 * points on a link for each place of the corner list.
+#![tactic(auto)]
+
 ghost use Rattle.std.specs.Prelude.{◌≡◌, true, false, ◌++◌, ℕ, suc, ◌+◌, ◌%◌, ◌<◌, ◌≤◌, length, drop, replicate};
 ghost use Rattle.halfedges.specs.Place.{at, hop_to, trip, Sized, Inside};
 ghost use Rattle.surface.specs.Triangle.{triangles};

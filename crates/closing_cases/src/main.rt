@@ -1,10 +1,13 @@
 // Runs the judgement of closedness on small triangle lists and writes what it says of each.
 // A list is written as digits, a corner each; other characters part the triangles.
+#![tactic(auto)]
+
 ghost use Rattle.std.specs.Prelude.{◌≡◌, true, ℕ, ◌<◌, ◌≤◌, length, get_or};
-ghost use Rattle.io.specs.Counts.{IsPrefixLen};
+ghost use Rattle.closing_cases.specs.Counts.{IsPrefixLen};
 
 use halfedges::wide;
-use libc::STDOUT_FILENO;
+use std::io;
+use std::io::Write;
 use surface::Finding;
 
 // Whether every corner is below points.
@@ -80,35 +83,53 @@ fn spell(text: &[u8], corners: &mut [u32]) -> usize
     n
 }
 
-fn show(name: &[u8], text: &[u8], points: usize) {
+fn show(rt: &impl Print, name: &[u8], text: &[u8], points: usize) -> io::Result<()> {
     let mut corners = [0u32; 48];
     let mut work = [7u32; 800];
     let n = spell(text, &mut corners);
     let out = [judged(&corners[..n], points, &mut work), b' '];
-    io::write_all(STDOUT_FILENO, &out);
-    io::write_all(STDOUT_FILENO, name);
-    io::write_all(STDOUT_FILENO, b"\n");
+    let mut printer = io::writer(rt);
+    printer.write_all(&out)?;
+    printer.write_all(name)?;
+    printer.write_all(b"\n")
 }
 
-fn main() {
-    show(b"tetrahedron", b"012 023 031 132", 4);
-    show(b"with points that no triangle names", b"012 023 031 132", 9);
-    show(b"open: one triangle gone", b"012 023 031", 4);
-    show(b"twisted: one triangle turned round", b"012 023 031 123", 4);
+fn main(rt: HostRuntime) -> io::Result<()> {
+    show(&rt, b"tetrahedron", b"012 023 031 132", 4)?;
     show(
+        &rt,
+        b"with points that no triangle names",
+        b"012 023 031 132",
+        9,
+    )?;
+    show(&rt, b"open: one triangle gone", b"012 023 031", 4)?;
+    show(
+        &rt,
+        b"twisted: one triangle turned round",
+        b"012 023 031 123",
+        4,
+    )?;
+    show(
+        &rt,
         b"two tetrahedra sharing a corner",
         b"012 023 031 132 045 056 064 465",
         7,
-    );
-    show(b"two pieces apart", b"012 023 031 132 745 756 764 465", 8);
+    )?;
     show(
+        &rt,
+        b"two pieces apart",
+        b"012 023 031 132 745 756 764 465",
+        8,
+    )?;
+    show(
+        &rt,
         b"torus of seven corners",
         b"013 032 124 143 235 254 346 365 450 406 561 510 602 621",
         7,
-    );
-    show(b"pillow", b"012 021", 3);
-    show(b"a corner twice in a triangle", b"001", 2);
-    show(b"a side three times", b"000", 1);
-    show(b"no triangles", b"", 0);
-    show(b"a corner that is no point", b"012 023 031 132", 3);
+    )?;
+    show(&rt, b"pillow", b"012 021", 3)?;
+    show(&rt, b"a corner twice in a triangle", b"001", 2)?;
+    show(&rt, b"a side three times", b"000", 1)?;
+    show(&rt, b"no triangles", b"", 0)?;
+    show(&rt, b"a corner that is no point", b"012 023 031 132", 3)
 }

@@ -1,4 +1,6 @@
 // The collapse pass of a round, from the lists to the words that say which triangles go and what the corners of the others become. The lists stay as they are.
+#![tactic(auto)]
+
 ghost use Rattle.std.specs.Prelude.{ℕ, ◌+◌, ◌*◌, ◌/◌, ◌<◌, ◌≤◌, ◌≡◌, length};
 ghost use Rattle.surface.specs.Triangle.{triangles};
 ghost use Rattle.surface.specs.Closed.{Closed};

@@ -1,5 +1,7 @@
 // Converts a text sheet of either edition to the unit of an edition. What a conversion is, is the crate
 // `sheet`; what comes of converting a text is `specs/Converting.antt`.
+#![tactic(auto)]
+
 ghost use Rattle.std.specs.Prelude.{◌≡◌, ℕ, ◌≤◌, ◌<◌, ◌^◌, length, get_or, pos, nat_abs};
 ghost use Rattle.sheet.specs.Edition.{edition, IsEdition};
 ghost use Rattle.sheet.specs.Contents.{contents};

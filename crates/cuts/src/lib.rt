@@ -1,4 +1,6 @@
 // Where the levels of a sampled field cut the edges of its lattice.
+#![tactic(auto)]
+
 mod edges;
 
 ghost use Rattle.lattice.specs.Sample.{told, lists};

@@ -1,8 +1,8 @@
 -- A whole call: what each end leaves is what `EditRun` says.
-use Prim.Native.Nat.{ℕ, ◌+◌, ◌*◌, ◌-◌, ◌/◌, ◌%◌, ◌≤◌}
+use Prim.Native.Nat.{ℕ, ◌*◌, ◌-◌, ◌/◌, ◌%◌, ◌≤◌}
 use mathlib.Core.Path.{◌≡◌, refl, sym, ◌∙◌, ap, ap₂, subst}
 use mathlib.Core.Bool.{Bool, ◌&&◌}
-use mathlib.Core.List.{List, [], ◌++◌, append_nil}
+use mathlib.Core.List.{List, [], ◌++◌, append-nil}
 use native.Mathlib.Omega.{arith}
 use lib.Dec.{eqb}
 use lib.Ieee.{Float}
@@ -39,7 +39,7 @@ whole_pair l ls e = λ i. record { tris = triangles (take_all (3 * length ls) l 
 nothing_left : (n : ℕ) (l : List ℕ) → length l ≡ n → drop n l ≡ replicate (length l - n) 0
 nothing_left n l e =
     let z : length l - n ≡ 0 = omega arith in
-    ap (λ (x : List ℕ). drop n x) (sym (append_nil l)) ∙ drop_at l [] n e ∙ ap (λ (k : ℕ). replicate k 0) (sym z)
+    ap (λ (x : List ℕ). drop n x) (sym (append-nil l)) ∙ drop_at l [] n e ∙ ap (λ (k : ℕ). replicate k 0) (sym z)
 
 module _ {points : List Float} {c l w : List ℕ} (a : Admitted points c l w) where
   pub thirds : length c ≡ 3 * length l
@@ -111,7 +111,7 @@ module _ (points : List Float) (c l w es v j : List ℕ) where
       pub starting : Starting (length points / 3) c l w' es v j₁
       starting = record {
         standing = standing-first admits same;
-        empty = clear ∙ ap (λ (x : List ℕ). replicate (length j) 0 ++ x) (drop-length j) ∙ append_nil (replicate (length j) 0) ∙ ap (λ (x : ℕ). replicate x 0) (sym size);
+        empty = clear ∙ ap (λ (x : List ℕ). replicate (length j) 0 ++ x) (drop-length j) ∙ append-nil (replicate (length j) 0) ∙ ap (λ (x : ℕ). replicate x 0) (sym size);
         threes = omega arith;
       }
 

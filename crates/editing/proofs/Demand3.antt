@@ -21,7 +21,7 @@ use Rattle.history.proofs.Safe.{safe}
 use Rattle.editing.specs.Edit.{number_of, edit_questions, answer_of, EditRun}
 use Rattle.editing.specs.Demand3.{Demand3}
 use Rattle.editing.specs.declared.Outcome.{Outcome}
-use Rattle.editing.specs.declared.Outcome.TheVariants.{Edited, Refused}
+use Rattle.editing.specs.declared.Outcome.TheVariants.{Edited}
 use Rattle.editing.proofs.Call.{thirds}
 
 -- an answer of two numbers is the history's, and no question was answered by "no"

@@ -1,19 +1,19 @@
 -- What an entry of each kind does to the lists and to the history that they hold.
-use Prim.Native.Nat.{ℕ, zero, suc, ◌+◌, ◌*◌, ◌-◌, ◌/◌, ◌≤◌, ◌<◌}
+use Prim.Native.Nat.{ℕ, ◌-◌, ◌/◌, ◌≤◌, ◌<◌}
 use mathlib.Core.Path.{◌≡◌, refl, sym, ◌∙◌, ap, subst, subst₂}
-use mathlib.Core.Logic.{◌⊎◌, inl, inr}
-use mathlib.Core.Bool.{Bool, true, false, not, cond}
+use mathlib.Core.Logic.{◌⊎◌}
+use mathlib.Core.Bool.{Bool, not}
 use mathlib.Core.List.{List}
 use native.Mathlib.Omega.{arith}
 use native.Mathlib.Decide.{ℕ_discrete}
-use lib.Dec.{eqb, ltb}
-use lib.ListN.{length, take, drop}
-use borrow.Author.Tests.{eq-eqb, ne_eqb, lt-ltb, le-ltb}
+use lib.Dec.{ltb}
+use lib.ListN.{length}
+use borrow.Author.Tests.{ne_eqb, lt-ltb, le-ltb}
 use Rattle.history.specs.History.{Entry, History, in_force, when, verdict, next}
 use Rattle.history.specs.Flat.{entry_of}
 use Rattle.history.specs.Entry.{Edited}
 use Rattle.history.proofs.Verdict.{verdict-back, verdict_other, next-back, next-refused}
-use Rattle.editing.specs.Held.{Holds, without, Returned, Entered, Noted}
+use Rattle.editing.specs.Held.{Holds, Returned, Entered, Noted}
 use Rattle.editing.proofs.Held.{word-is, holds-edited, holds_kept}
 
 -- a flip or collapse

@@ -1,26 +1,26 @@
 -- What an entry does to the lists, and to the history that they hold.
-use Prim.Native.Nat.{ℕ, zero, suc, ◌+◌, ◌*◌, ◌-◌, ◌/◌, ◌≤◌, ◌<◌}
+use Prim.Native.Nat.{ℕ, suc, ◌+◌, ◌*◌, ◌-◌, ◌/◌, ◌≤◌}
 use mathlib.Core.Path.{◌≡◌, refl, sym, ◌∙◌, ap, subst, subst₂}
-use mathlib.Core.Logic.{◌⊎◌, inl, inr}
+use mathlib.Core.Logic.{◌⊎◌}
 use mathlib.Core.Bool.{Bool, true, false, not, cond}
-use mathlib.Core.List.{List, [], ◌∷◌, ◌++◌, append_assoc}
+use mathlib.Core.List.{List, [], ◌∷◌, ◌++◌}
 use native.Mathlib.Omega.{arith}
 use lib.Dec.{eqb, leb, ltb}
 use borrow.Author.Tests.{ltb-true, ltb-false, le-leb, lt-leb}
-use lib.ListN.{length, take, drop, replicate, length-append, length-replicate}
+use lib.ListN.{length, take, drop, replicate, length-append}
 use Rattle.surface.specs.Closed.{Closed}
-use Rattle.surface.specs.Edit.{Hinge, hinge}
-use Rattle.history.specs.History.{Pair, Entry, covered, exists, label, Made, words, made, last_of, History, last, in_force, full, verdict, next, begun}
+use Rattle.surface.specs.Edit.{hinge}
+use Rattle.history.specs.History.{Pair, Entry, covered, exists, label, Made, words, made, last_of, History, last, full, verdict, next, begun}
 use Rattle.history.specs.Lists.{records}
 use Rattle.history.specs.Flat.{pair_of}
 use Rattle.history.specs.Local.{else, flip?, collapse?, flip_word, collapse_word, edit_word}
 use Rattle.history.specs.Undo.{undone}
 use Rattle.history.specs.Accepted.{Edit}
 use Rattle.history.specs.Entry.{Good, Standing, Edited, Recorded, Undoable, TakenBack}
-use Rattle.history.proofs.Verdict.{next-edit, next-back, next-refused}
+use Rattle.history.proofs.Verdict.{next-edit, next-refused}
 use Rattle.history.proofs.Local.{else-zero, local_verdict}
 use Rattle.history.proofs.Entry.{recorded-undone, edited-recorded}
-use Rattle.editing.specs.Held.{Chain, none, link, Holds, Held, without}
+use Rattle.editing.specs.Held.{Chain, none, link, Holds, without}
 use Rattle.editing.proofs.Journal.{put_in, read-last, take_out}
 
 -- the records have twelve words each

@@ -1,12 +1,11 @@
 -- Taking back several edits, one after the other.
-use Prim.Native.Nat.{ℕ, zero, suc, ◌+◌, ◌*◌, ◌-◌, ◌≤◌, ◌<◌}
-use mathlib.Core.Path.{◌≡◌, refl, sym, ◌∙◌, ap, subst, subst₂}
+use Prim.Native.Nat.{ℕ, ◌+◌, ◌*◌, ◌-◌, ◌≤◌, ◌<◌}
+use mathlib.Core.Path.{◌≡◌, refl, ◌∙◌, subst, subst₂}
 use mathlib.Core.List.{List}
 use native.Mathlib.Omega.{arith}
 use lib.ListN.{length, drop}
 use lib.Seq.{drop-drop}
-use Rattle.history.specs.History.{Made, History}
-use Rattle.history.specs.Entry.{needed}
+use Rattle.history.specs.History.{Made}
 use Rattle.editing.specs.Held.{Holds, without, Returned}
 
 -- i edits are taken back; the lists keep their lengths

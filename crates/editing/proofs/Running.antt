@@ -1,16 +1,16 @@
 -- The loop over the entries.
-use Prim.Native.Nat.{ℕ, zero, suc, ◌+◌, ◌*◌, ◌-◌, ◌/◌, ◌≤◌, ◌<◌}
-use mathlib.Core.Path.{◌≡◌, refl, sym, ◌∙◌, ap, subst, subst₂}
-use mathlib.Core.List.{List, [], ◌∷◌, ◌++◌, append_nil}
+use Prim.Native.Nat.{ℕ, zero, suc, ◌+◌, ◌*◌, ◌/◌, ◌≤◌, ◌<◌}
+use mathlib.Core.Path.{◌≡◌, refl, sym, ◌∙◌, ap, subst}
+use mathlib.Core.List.{List, [], ◌∷◌, ◌++◌, append-nil}
 use native.Mathlib.Omega.{arith}
 use native.Mathlib.Numerals.{add-one}
-use lib.ListN.{length, get_or, take, drop, set, replicate, length-set, drop_of_length-le}
+use lib.ListN.{length, get_or, take, drop, set, length-set, drop_of_length-le}
 use lib.Seq.{paste, paste-zero, paste-suc, take_all}
-use Rattle.history.specs.History.{Pair, Entry, History, begun, next, after, verdict, verdicts}
+use Rattle.history.specs.History.{Entry, History, next, after, verdict, verdicts}
 use Rattle.history.specs.Lists.{entries}
 use Rattle.history.specs.Safe.{entry_at}
-use Rattle.history.specs.Flat.{pair_of, entry_of}
-use Rattle.history.specs.Entry.{needed, Standing}
+use Rattle.history.specs.Flat.{entry_of}
+use Rattle.history.specs.Entry.{needed}
 use Rattle.history.proofs.Safe.{after_next, verdict-at}
 use Rattle.editing.specs.Held.{Holds, Entered}
 use Rattle.editing.specs.Run.{Starting, first, Ran}
@@ -51,7 +51,7 @@ one_word v₀ ws i {v} {word} e p q said =
     ∙ ap (paste v₀ 0 ws) (sym (add-one i))
 
 all_words : (v₀ ws : List ℕ) (i : ℕ) → length v₀ ≤ i → length ws ≤ i → paste v₀ 0 ws i ≡ ws
-all_words v₀ ws i p q = ap (λ (x : List ℕ). take i ws ++ x) (let m : length v₀ ≤ 0 + i = omega arith in drop_of_length-le v₀ m) ∙ append_nil (take i ws) ∙ take_all i ws q
+all_words v₀ ws i p q = ap (λ (x : List ℕ). take i ws ++ x) (let m : length v₀ ≤ 0 + i = omega arith in drop_of_length-le v₀ m) ∙ append-nil (take i ws) ∙ take_all i ws q
 
 -- after i entries
 pub record Running (points : ℕ) (l₀ ls₀ w₀ es v₀ j₀ l ls w v j : List ℕ) (n k i : ℕ) : Type 0 where

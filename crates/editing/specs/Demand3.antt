@@ -2,7 +2,7 @@
 use Rattle.std.specs.Prelude.{ℕ, ◌/◌, ◌≡◌, List, length, Float}
 use Rattle.surface.specs.Triangle.{corners}
 use Rattle.surface.specs.Euler.{Below}
-use Rattle.history.specs.History.{History, last, in_force}
+use Rattle.history.specs.History.{last, in_force}
 use Rattle.history.specs.Lists.{lent_pair, entries, capacity, then_zero, history_of, verdicts_of}
 use Rattle.history.specs.Safe.{Safe}
 

@@ -1,6 +1,6 @@
 -- What the loop over the entries is handed, and what it leaves. Definitions only.
 use Rattle.std.specs.Prelude.{ℕ, ◌*◌, ◌/◌, ◌≡◌, List, length, drop, replicate}
-use Rattle.history.specs.History.{Pair, History, begun, after, verdicts}
+use Rattle.history.specs.History.{History, begun, after, verdicts}
 use Rattle.history.specs.Lists.{entries}
 use Rattle.history.specs.Flat.{pair_of}
 use Rattle.history.specs.Entry.{needed, Standing}

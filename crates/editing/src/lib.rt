@@ -1,4 +1,6 @@
 // Edit runs: the entries in order, the journal of the edits in force, and taking back.
+#![tactic(auto)]
+
 ghost use Rattle.std.specs.Prelude.{◌≡◌, ◌++◌, ◌+◌, ◌*◌, ◌/◌, ◌<◌, ◌≤◌, ltb, length, take, drop};
 ghost use Rattle.history.specs.Flat.{entry_of};
 ghost use Rattle.editing.specs.Held.{Held, Returned, Entered, Noted};

@@ -4,24 +4,22 @@ use mathlib.Core.Path.{◌≡◌, refl, sym, ◌∙◌, ap, subst}
 use mathlib.Core.Bool.{Bool, true, false, cond}
 use mathlib.Core.List.{List, ◌++◌}
 use native.Mathlib.Omega.{arith}
-use lib.Dec.{eqb, ltb}
-use lib.ListN.{length, get_or, take, drop, replicate, length-drop, length-append}
+use lib.Dec.{eqb}
+use lib.ListN.{length, take, drop, replicate}
 use lib.Seq.{get_or-take, length-take-le, length_front, drop-drop, drop-append-add}
 use borrow.Author.Tests.{lt-ltb, le-ltb}
 use Rattle.surface.specs.Edit.{Hinge, hinge, first}
 use Rattle.surface.specs.Flat.{held}
-use Rattle.surface.proofs.Hinged.{Hinged}
 use Rattle.surface.proofs.Held.{length-held}
 use Rattle.surface.proofs.Laws.{side-exists, hinge-found}
-use Rattle.history.specs.Local.{else}
 use Rattle.history.specs.History.{Pair, Entry, exists, words, made}
 use Rattle.history.specs.Accepted.{Edit}
-use Rattle.history.specs.Flat.{pair_of, entry_of}
+use Rattle.history.specs.Flat.{pair_of}
 use Rattle.history.specs.Local.{flip_word, collapse_word, edit_word}
 use Rattle.history.specs.Entry.{needed, Good, Standing, Edited}
 use Rattle.history.proofs.Verdict.{first-has}
 use Rattle.history.proofs.Entry.{edit-good}
-use Rattle.verdicts.specs.Found.{hinge_of, Ready, SideAt, Places, Hung, Labelled}
+use Rattle.verdicts.specs.Found.{hinge_of, Ready, SideAt, Hung, Labelled}
 use Rattle.verdicts.specs.Notes.{Listed}
 use Rattle.verdicts.specs.declared.Found.{Found}
 use Rattle.verdicts.proofs.Scan.{first-most}

@@ -1,40 +1,35 @@
 -- A flip and a collapse taken back on the lists that a program holds.
-use Prim.Native.Nat.{ℕ, zero, suc, ◌+◌, ◌*◌, ◌-◌, ◌≤◌, ◌<◌}
+use Prim.Native.Nat.{ℕ, zero, suc, ◌+◌, ◌*◌, ◌≤◌, ◌<◌}
 use mathlib.Core.Path.{◌≡◌, refl, sym, ◌∙◌, ap, subst, subst₂}
-use mathlib.Core.Logic.{◌⊎◌, inl, inr}
-use mathlib.Core.Bool.{Bool, true, false, cond}
 use mathlib.Core.List.{List, [], ◌∷◌, map}
 use native.Mathlib.Omega.{arith}
 use lib.Dec.{eqb}
-use lib.ListN.{length, get_or, take, drop, set}
+use lib.ListN.{length, get_or, take, drop}
 use borrow.Author.Tests.{eq-eqb, ne_eqb}
 use Rattle.surface.specs.Triangle.{Tri, tri}
-use Rattle.surface.specs.Closed.{sides, around, Closed}
+use Rattle.surface.specs.Closed.{sides, around}
 use Rattle.surface.specs.Edit.{Hinge, hinge, place, collapse}
-use Rattle.surface.specs.Flat.{tri_of, tri_at, held, three_at, put_at}
+use Rattle.surface.specs.Flat.{tri_at, held, three_at, put_at}
 use Rattle.surface.proofs.Hinged.{Hinged}
 use Rattle.surface.proofs.Held.{length-held}
 use Rattle.surface.proofs.Laws.{hinge-found}
-use Rattle.history.specs.History.{Pair, Entry, label, words, made, flipped, collapsed}
+use Rattle.history.specs.History.{Pair, Entry, words, made}
 use Rattle.history.specs.Accepted.{Edit, flips, collapses}
-use Rattle.history.specs.Safe.{Sound}
 use Rattle.history.specs.Flat.{pair_of}
 use Rattle.history.specs.Undo.{turned, inserted, walk, restored, uncollapsed, undone}
-use Rattle.history.specs.Route.{Route}
-use Rattle.history.specs.Entry.{needed, Good, Standing, Recorded, Undoable, TakenBack}
-use Rattle.surface.proofs.Labels.{place_map}
+use Rattle.history.specs.Entry.{needed, Good, Standing, Undoable, TakenBack}
 use Rattle.history.proofs.Run.{flip-length, collapse-length, out_two}
 use Rattle.history.proofs.Undo.{ahead-is, collapse-route}
 use Rattle.history.proofs.Entry.{recorded-undone}
 use Rattle.verdicts.specs.Notes.{Listed, On}
 use Rattle.verdicts.proofs.Notes.{listed-on}
-use Rattle.entries.specs.Moved.{Zero, Forward, Backward}
+use Rattle.entries.specs.Moved.{Zero, Backward}
 use Rattle.entries.specs.Marks.{Marked, Routed, restored_by, Mapped}
 use Rattle.entries.specs.Undoes.{first_of, second_of, walk_from, walk_to, Unflips, Uncollapses, Restored}
 use Rattle.entries.proofs.Moved.{backward_zero, drop-same-zero, inserted-held, inserted-take}
-use Rattle.entries.proofs.Edits.{two-put, two-rest}
+use Rattle.entries.proofs.Edits.{two-put}
 use Rattle.entries.proofs.Marks.{restored-is}
-use Rattle.entries.proofs.Acts.{fits, standing-lists, zero-corners, zero-labels}
+use Rattle.entries.proofs.Acts.{fits, standing-lists}
 
 -- the three ways in which a triangle can be turned
 pub turned_0 : (s x y z : ℕ) → s ≡ 0 → tri x y z ≡ turned s x y z

@@ -3,14 +3,14 @@ use Prim.Native.Nat.{ℕ, zero, suc, ◌+◌, ◌*◌, ◌-◌, ◌≤◌, ◌<�
 use mathlib.Core.Path.{◌≡◌, refl, sym, ◌∙◌, ap, subst}
 use mathlib.Core.List.{List, [], ◌∷◌, map}
 use native.Mathlib.Omega.{arith}
-use lib.ListN.{length, get_or, take, drop, set}
+use lib.ListN.{length, take, drop, set}
 use Rattle.surface.specs.Triangle.{Tri, tri}
-use Rattle.surface.specs.Edit.{Hinge, hinge, without, renamed, flip, collapse}
+use Rattle.surface.specs.Edit.{Hinge, without, renamed, flip, collapse}
 use Rattle.surface.specs.Flat.{held, put_at}
-use Rattle.surface.proofs.Held.{length-held, set-held, length-put, drop-put}
-use Rattle.history.specs.History.{Pair, collapsed, made}
+use Rattle.surface.proofs.Held.{set-held, length-put, drop-put}
+use Rattle.history.specs.History.{made}
 use Rattle.history.specs.Flat.{pair_of, entry_of}
-use Rattle.verdicts.specs.Found.{hinge_of, Places, Hung}
+use Rattle.verdicts.specs.Found.{Hung}
 use Rattle.verdicts.specs.declared.Found.{Found}
 use Rattle.entries.specs.Moved.{Zero, TakenOut, Reduced}
 use Rattle.entries.specs.Marks.{Mapped}

@@ -1,15 +1,15 @@
 -- The triangles in use changed one by one.
-use Prim.Native.Nat.{ℕ, zero, suc, ◌+◌, ◌*◌, ◌≤◌, ◌<◌}
+use Prim.Native.Nat.{ℕ, ◌+◌, ◌*◌, ◌≤◌, ◌<◌}
 use mathlib.Core.Path.{◌≡◌, refl, sym, ◌∙◌, ap}
-use mathlib.Core.List.{List, [], ◌∷◌, map}
+use mathlib.Core.List.{List, map}
 use native.Mathlib.Omega.{arith}
-use native.Mathlib.Decide.{ℕ_discrete, dec_lt}
-use lib.ListN.{length, get_or, take, drop, set, length-map, length-set}
+use native.Mathlib.Decide.{ℕ_discrete}
+use lib.ListN.{length, drop, set, length-map}
 use lib.Seq.{ext_get_or, get_or-set_same, get_or-set_other}
 use Rattle.surface.specs.Triangle.{Tri, tri}
 use Rattle.surface.specs.Edit.{place}
 use Rattle.surface.specs.Flat.{tri_of, held, three_at, put_at}
-use Rattle.surface.proofs.Held.{length-held, place-held, read_held, set-held, length-put, drop-put}
+use Rattle.surface.proofs.Held.{length-held, read_held, set-held, length-put, drop-put}
 use Rattle.surface.proofs.Labels.{place_map}
 use Rattle.entries.specs.Marks.{Mapped}
 

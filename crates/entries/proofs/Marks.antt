@@ -1,9 +1,9 @@
 -- The walk around a corner is followed and marked, a corner at a time.
-use Prim.Native.Nat.{ℕ, zero, suc, ◌+◌, ◌*◌, ◌-◌, ◌≤◌, ◌<◌}
+use Prim.Native.Nat.{ℕ, ◌+◌, ◌-◌, ◌<◌}
 use mathlib.Core.Path.{◌≡◌, refl, sym, ◌∙◌, ap, subst}
 use mathlib.Core.Logic.{◌≢◌}
 use mathlib.Core.Bool.{Bool, true, false, not, ◌&&◌, ◌||◌, cond}
-use mathlib.Core.List.{List, [], ◌∷◌, ◌++◌, map, append_assoc, Memᴰ}
+use mathlib.Core.List.{List, [], ◌∷◌, ◌++◌, append_assoc, Memᴰ}
 use native.Mathlib.Omega.{arith}
 use native.Mathlib.Nat.{min-le_left}
 use native.Mathlib.Decide.{ℕ_discrete, dec_lt}
@@ -11,13 +11,12 @@ use lib.Dec.{eqb}
 use lib.ListN.{length, get_or, take, drop, set, length-set, length-append, length-take, length-drop, get_or-append, get_or-eq_default}
 use lib.Seq.{length-take-le, get_or-take, get_or-drop, get_or-set_same, get_or-set_other, get_or-append-add}
 use borrow.Author.Tests.{eq-eqb, ne_eqb}
-use Rattle.surface.specs.Triangle.{Tri, tri}
-use Rattle.surface.specs.Closed.{sides, Step, step, around, Leads, Closed}
+use Rattle.surface.specs.Triangle.{Tri}
+use Rattle.surface.specs.Closed.{Step, around, Leads}
 use Rattle.surface.specs.Flat.{held}
 use Rattle.surface.proofs.Reading.{Has, spin, has-eq}
 use Rattle.surface.proofs.Rings.{is_yes, froms, froms_cons, froms_append}
 use Rattle.surface.proofs.Steps.{froms_around, around-has}
-use Rattle.surface.proofs.Surface.{Surface}
 use Rattle.surface.proofs.Bridge.{closed_surface_lem, in_use}
 use Rattle.history.specs.Undo.{walk, among, again, restored}
 use Rattle.history.specs.Route.{Route}

@@ -1,5 +1,5 @@
 -- The walk around a corner marked in words: notes of the steps in the words of the points, marks in as many words behind them. Definitions only.
-use Rattle.std.specs.Prelude.{ℕ, ◌+◌, ◌*◌, ◌≤◌, ◌<◌, ◌≡◌, Bool, not, ◌&&◌, cond, List, map, eqb, length, get_or, drop}
+use Rattle.std.specs.Prelude.{ℕ, ◌+◌, ◌*◌, ◌<◌, ◌≡◌, Bool, not, ◌&&◌, cond, List, map, eqb, length, get_or, drop}
 use Rattle.surface.specs.Triangle.{Tri, tri}
 use Rattle.surface.specs.Flat.{held}
 use Rattle.history.specs.Undo.{among}

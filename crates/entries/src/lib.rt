@@ -1,4 +1,6 @@
 // One entry done on the lists that a run holds: a flip, a collapse, and the last edit taken back.
+#![tactic(auto)]
+
 ghost use Rattle.std.specs.Prelude.{◌≡◌, ◌++◌, cond, ◌+◌, ◌*◌, ◌-◌, ◌<◌, ◌≤◌, length, get_or, drop, replicate, eqb};
 ghost use Rattle.surface.specs.Triangle.{tri};
 ghost use Rattle.surface.specs.Edit.{put, renamed};

@@ -1,13 +1,13 @@
 -- What the tests of `sheet_ok` say of the conditions: one turn of a loop over a list, and the levels. Assumes nothing.
 use mathlib.Core.Path.{◌≡◌, refl, sym, ap, ◌∙◌}
-use mathlib.Core.Bool.{Bool, true, false, not, ◌&&◌, ◌||◌, false≢true}
+use mathlib.Core.Bool.{Bool, true, false, ◌&&◌, ◌||◌, false≢true}
 use mathlib.Core.List.{List}
 use Prim.Native.Nat.{ℕ, suc, ◌+◌, ◌*◌, ◌≤◌, ◌<◌}
 use native.Mathlib.Numerals.{add-one}
 use lib.ListN.{length, get_or, drop, drop_of_length-le}
 use lib.Seq.{drop-cons}
 use lib.Ieee.{Float, nan, inf, fin, lt, eq, le, neg}
-use borrow.Author.Tests.{le-leb, lt-leb, eq-eqb, ne_eqb, not_true, not-false}
+use borrow.Author.Tests.{le-leb, lt-leb, eq-eqb, ne_eqb}
 use Rattle.float.specs.Order.{is_finite}
 use Rattle.field.specs.Number.{limit}
 use Rattle.field.specs.Valid.{every, is_power, levels_ok, bounded, side_ok, terms_ok, box_ok, sheet_ok}
@@ -62,12 +62,12 @@ bounded-none x e = sym (ap (λ (b : Bool). b && le x limit) e)
 
 -- ---- the conditions one after another, of which the first that fails decides
 
--- what a negated test says of the condition that its function ensures
-pub failed : {r k : Bool} → r ≡ k → not r ≡ true → k ≡ false
-failed {r} {k} e f = sym e ∙ not_true r f
+-- what a test says of the condition that its function ensures
+pub failed : {r k : Bool} → r ≡ k → r ≡ false → k ≡ false
+failed e f = sym e ∙ f
 
-pub held : {r k : Bool} → r ≡ k → not r ≡ false → k ≡ true
-held {r} {k} e f = sym e ∙ not-false r f
+pub held : {r k : Bool} → r ≡ k → r ≡ true → k ≡ true
+held e f = sym e ∙ f
 
 abbrev all_three : Bool → Bool → Bool → Bool
 all_three a b c = a && (b && c)

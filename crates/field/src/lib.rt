@@ -1,5 +1,7 @@
 // A field given by a sheet of terms: its value, its slopes and its normals, the shape of a triangle, and which sheets
 // are taken.
+#![tactic(auto)]
+
 ghost use Rattle.std.specs.Prelude.{◌≡◌, ◌-◌, ◌≤◌};
 ghost use Rattle.float.specs.Order.{is_finite};
 ghost use Rattle.field.specs.Sheet as Sheet;

@@ -1,4 +1,6 @@
 // The flip pass of a round: each side of two triangles with one label, in rising order, is flipped where that helps the worse shape or evens the degrees.
+#![tactic(auto)]
+
 ghost use Rattle.std.specs.Prelude.{◌≡◌, true, false, ℕ, ◌+◌, ◌*◌, ◌/◌, ◌%◌, ◌<◌, ◌≤◌, length};
 ghost use Rattle.surface.specs.Triangle.{triangles};
 ghost use Rattle.surface.specs.Closed.{Closed, one};

@@ -475,6 +475,12 @@ root-exact f (fin false zero e) r h p k q g = absurd p
 root-exact f (fin false (suc m) e) (fin false zero d) h p k q g = absurd q
 root-exact f (fin false (suc m) e) (fin false (suc a) d) h p k q g =
     nearest_unique f (fin false (suc m) e) (root f (fin false (suc m) e)) (fin false (suc a) d) (root_correct f (fin false (suc m) e) h) (exact-nearest f (fin false (suc m) e) a d k g)
+root-exact f nan r h p k q g = elim p [ ]
+root-exact f (inf _) r h p k q g = elim p [ ]
+root-exact f (fin false (suc m) e) nan h p k q g = elim q [ ]
+root-exact f (fin false (suc m) e) (inf _) h p k q g = elim q [ ]
+root-exact f (fin false (suc m) e) (fin true _ d) h p k q g = elim q [ ]
+root-exact f (fin true _ e) r h p k q g = elim p [ ]
 
 -- the roots of n ≤ k
 ordered : (n k a b : ℕ) → n ≤ k → Nearer n a false b → Nearer k b false a → a ≤ b
@@ -500,3 +506,9 @@ root_mono f (fin false zero e) y h p k q l = absurd p
 root_mono f (fin false (suc m) e) (fin false zero d) h p k q l = absurd q
 root_mono f (fin false (suc m) e) (fin false (suc n) d) h p k q l =
     nearest_mono f (fin false (suc m) e) (fin false (suc n) d) (root f (fin false (suc m) e)) (root f (fin false (suc n) d)) l (root_correct f (fin false (suc m) e) h) (root_correct f (fin false (suc n) d) k)
+root_mono f nan y h p k q l = elim p [ ]
+root_mono f (inf _) y h p k q l = elim p [ ]
+root_mono f (fin false (suc m) e) nan h p k q l = elim q [ ]
+root_mono f (fin false (suc m) e) (inf _) h p k q l = elim q [ ]
+root_mono f (fin false (suc m) e) (fin true _ d) h p k q l = elim q [ ]
+root_mono f (fin true _ e) y h p k q l = elim p [ ]

@@ -1,6 +1,8 @@
 // Square roots, the least and the greatest of floats, and points of space, over `f64`.
 // Each contract says what is returned in the logic's account of IEEE 754 (`lib.Ieee`), by a definition
 // of `specs/`.
+#![tactic(auto)]
+
 pub mod guess;
 
 ghost use Rattle.std.specs.Prelude.{◌≡◌, ◌+◌, ◌-◌, ◌*◌, ◌^◌, ◌≤◌, ◌<◌};

@@ -63,6 +63,7 @@ all_mem : (f : Step → Bool) {s : Step} (l : List Step) → every f l ≡ true 
 unfolding every
 all_mem f (t ∷ l) e (Memᴰ.head p) = rw p (both (f t) (every f l) e).0
 all_mem f (t ∷ l) e (Memᴰ.tail m) = all_mem f l (both (f t) (every f l) e).1 m
+all_mem f {s = s} [] e x'' = elim x'' [ ]
 
 mem_all : (f : Step → Bool) (l : List Step) → ((s : Step) → Memᴰ s l → f s ≡ true) → every f l ≡ true
 unfolding every

@@ -1,4 +1,6 @@
 // Improving: rounds, each of a collapse pass, a renumbering by first use and a flip pass; and the call, which asks its questions first.
+#![tactic(auto)]
+
 ghost use Rattle.std.specs.Prelude.{ℕ, ◌*◌, ◌/◌, ◌≤◌, true, length};
 ghost use Rattle.oracle.specs.Round as Round;
 ghost use Rattle.flips.specs.Whole.{mesh_of, sheet_of};

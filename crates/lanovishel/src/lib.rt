@@ -1,5 +1,7 @@
-// The functions that programs in Rust and C link. Slices pass as a pointer and a length, arrays as a
-// pointer. None asks anything of its caller: a bad call is answered with its number.
+// The calls that programs make; `lanovishel_c` exports them to Rust and C. None asks anything of its
+// caller: a bad call is answered with its number.
+#![tactic(auto)]
+
 ghost use Rattle.std.specs.Prelude.{◌≡◌, [], ◌∷◌, ◌%◌, ◌^◌, T};
 ghost use Rattle.std.specs.Float.{binary64};
 ghost use Rattle.std.specs.Float.Ieee.{fits};
@@ -28,8 +30,7 @@ use reading::Answer;
 use writing::Written;
 
 // The square root of IEEE 754.
-#[unsafe(no_mangle)]
-pub extern "C" fn lanovishel_sqrt(x: f64) -> f64
+pub fn lanovishel_sqrt(x: f64) -> f64
     ensures { SquareRoot x result }
 {
     float::sqrt(x)
@@ -37,8 +38,7 @@ pub extern "C" fn lanovishel_sqrt(x: f64) -> f64
 
 // The verdict on a surface: 0 with its smallest quality and its volume, or the number of the refusal, with
 // the place of what is found.
-#[unsafe(no_mangle)]
-pub extern "C" fn lanovishel_check(
+pub fn lanovishel_check(
     points: &[f64],
     corners: &[u32],
     labels: &[u8],
@@ -64,8 +64,7 @@ pub extern "C" fn lanovishel_check(
 
 // The price of a surface: 0 with the cents, or the number of the refusal, with the place of what is found.
 // The price sheet: `uppers`, the upper volumes of all steps but the last, and `prices`, one a step.
-#[unsafe(no_mangle)]
-pub extern "C" fn lanovishel_price(
+pub fn lanovishel_price(
     points: &[f64],
     corners: &[u32],
     labels: &[u8],
@@ -93,8 +92,7 @@ pub extern "C" fn lanovishel_price(
 
 // The nearest corners in use of up to 64 probes, three values each: 0 with how many answer places are
 // filled, a corner and its squared distance each, or the number of the refusal.
-#[unsafe(no_mangle)]
-pub extern "C" fn lanovishel_nearest(
+pub fn lanovishel_nearest(
     points: &[f64],
     corners: &[u32],
     labels: &[u8],
@@ -120,8 +118,7 @@ pub extern "C" fn lanovishel_nearest(
 // The loops in which the plane at half a unit above the height crosses a closed surface: 0 with how many list
 // places are filled and how many loops they hold, or the number of the refusal, with the place of what is found.
 // A list place is two corners, the smaller first, and the loop's number.
-#[unsafe(no_mangle)]
-pub extern "C" fn lanovishel_outlines(
+pub fn lanovishel_outlines(
     points: &[f64],
     corners: &[u32],
     labels: &[u8],
@@ -149,8 +146,7 @@ pub extern "C" fn lanovishel_outlines(
 
 // The sheet that a text is, of either edition: 0 with its points, corners and labels, and how many points and
 // triangles they are, or the number of the refusal.
-#[unsafe(no_mangle)]
-pub extern "C" fn lanovishel_read_sheet(
+pub fn lanovishel_read_sheet(
     sheet: &[u8],
     points: &mut [f64],
     corners: &mut [u32],
@@ -173,8 +169,7 @@ pub extern "C" fn lanovishel_read_sheet(
 
 // The text of the sheet that the lists say in an edition, the coordinates in its whole units: 0 with the length
 // of the text, or the number of the refusal.
-#[unsafe(no_mangle)]
-pub extern "C" fn lanovishel_write_sheet(
+pub fn lanovishel_write_sheet(
     edition: u32,
     coordinates: &[i32],
     corners: &[u32],
@@ -191,8 +186,7 @@ pub extern "C" fn lanovishel_write_sheet(
 }
 
 // The sheet that a text is, in the edition asked for: 0 with the length of the text, or the number of the refusal.
-#[unsafe(no_mangle)]
-pub extern "C" fn lanovishel_convert_sheet(
+pub fn lanovishel_convert_sheet(
     sheet: &[u8],
     edition: u32,
     written: &mut [u8],
@@ -221,8 +215,7 @@ fn answered(what: Written, count: &mut [u64; 1]) -> u32
 
 // An edit run: entries of kind, a, b; 0 with triangles left and edits in force, or the number of the
 // refusal, with the place of what is found.
-#[unsafe(no_mangle)]
-pub extern "C" fn lanovishel_edit(
+pub fn lanovishel_edit(
     points: &[f64],
     corners: &mut [u32],
     labels: &mut [u8],
@@ -251,8 +244,7 @@ pub extern "C" fn lanovishel_edit(
 
 // Improving by rounds: 0 with points left, triangles left and flips, or the number of the refusal, with
 // the place of what is found. `bounds` is the lower corner of the box, then the upper.
-#[unsafe(no_mangle)]
-pub extern "C" fn lanovishel_improve(
+pub fn lanovishel_improve(
     points: &mut [f64],
     corners: &mut [u32],
     labels: &mut [u8],
@@ -293,8 +285,7 @@ pub extern "C" fn lanovishel_improve(
 
 // Samples a field sheet on the lattice of a box: 0 with the nodes in the grid, the nodes in the values and the edges in
 // their list, or the number of the refusal. `bounds` is the lower corner of the box, then the upper.
-#[unsafe(no_mangle)]
-pub extern "C" fn lanovishel_sample(
+pub fn lanovishel_sample(
     coefficients: &[f64],
     powers: &[u32],
     levels: &[f64; 2],
@@ -331,8 +322,7 @@ pub extern "C" fn lanovishel_sample(
 // Samples a field sheet as `lanovishel_sample` does, and cuts the listed edges: 0 with the nodes in the grid, the nodes
 // in the values, the edges in their list and their cuts, and the field values that were taken for these; or the number
 // of the refusal.
-#[unsafe(no_mangle)]
-pub extern "C" fn lanovishel_cut(
+pub fn lanovishel_cut(
     coefficients: &[f64],
     powers: &[u32],
     levels: &[f64; 2],

@@ -1,6 +1,6 @@
 -- A call put together from its parts: the answer by the tests, what a refusal leaves, the fronts of the lists, and 0 behind them. Assumes nothing.
 use mathlib.Core.Path.{◌≡◌, refl, sym, ap, ◌∙◌, subst}
-use mathlib.Core.Bool.{Bool, true, false, not}
+use mathlib.Core.Bool.{Bool, true, false}
 use mathlib.Core.List.{List, ◌++◌}
 use Prim.Native.Nat.{ℕ, ◌+◌, ◌*◌, ◌≤◌, ◌<◌}
 use native.Mathlib.Omega.{arith}
@@ -65,10 +65,10 @@ module _ (f : SampledField) where
     grid-same : length g₁ ≡ length g₀
     grid-same = ap length n.grid_front ∙ length-sets g₀ 0 (lattice_grid f)
 
-    pub fills_36 : {e₀ : List ℕ} → length v₁ ≡ length v₀ → not b ≡ true → FrontsFilled (after_nodes f (length e₀)) f (lists g₀ v₀ e₀) (lists g₁ v₁ e₀) (Refused 36)
+    pub fills_36 : {e₀ : List ℕ} → length v₁ ≡ length v₀ → b ≡ false → FrontsFilled (after_nodes f (length e₀)) f (lists g₀ v₀ e₀) (lists g₁ v₁ e₀) (Refused 36)
     fills_36 {e₀} same q = refused _ 36 (not_finite (length e₀) (sym (ap (every is_finite) n.values) ∙ failed tested q)) grid-same same refl
 
-    module _ (q : not b ≡ false) {v₂ : List Float} (settled : v₂ ≡ onto_levels (lower_level f) (upper_level f) v₁) (kept : length v₂ ≡ length v₀)
+    module _ (q : b ≡ true) {v₂ : List Float} (settled : v₂ ≡ onto_levels (lower_level f) (upper_level f) v₁) (kept : length v₂ ≡ length v₀)
         {e₀ e₁ : List ℕ} {found : ℕ} (noted : EdgesNoted (crossed_edges (per_side f.cells) (lower_level f) (upper_level f) v₂) 0 e₀ found e₁) where
       finite : every is_finite (raw_values f) ≡ true
       finite = sym (ap (every is_finite) n.values) ∙ held tested q

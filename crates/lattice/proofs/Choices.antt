@@ -1,7 +1,7 @@
 -- Which case of `with_level`, `onto` and `crossed_by` the tests of the code pick, and a turn of the loops over the values. Assumes nothing.
 use mathlib.Core.Path.{◌≡◌, sym, ap, ◌∙◌}
-use mathlib.Core.Bool.{Bool, true, false, not, ◌&&◌, beq, cond, and_true, and_false}
-use mathlib.Core.List.{List, [], ◌∷◌, ◌++◌, map, map-append, append_nil}
+use mathlib.Core.Bool.{Bool, true, false, not, ◌&&◌, beq, cond, and-true, and-false}
+use mathlib.Core.List.{List, [], ◌∷◌, ◌++◌, map, map-append, append-nil}
 use Prim.Native.Nat.{ℕ, suc, ◌+◌, ◌≤◌, ◌<◌}
 use native.Mathlib.Numerals.{add-one}
 use native.Mathlib.Omega.{arith}
@@ -27,11 +27,11 @@ with_none s level f = chosen (greater s (magnitude level)) s false f
 
 pub near_test : (t level v m : Float) → m ≡ magnitude (less v level) → Ieee.le m t ≡ true → is_finite level ≡ near_level? t level v
 unfolding near_level?
-near_test t level v m e g = sym (ap (λ (b : Bool). is_finite level && b) (ap (λ (x : Float). Ieee.le x t) (sym e) ∙ g) ∙ and_true (is_finite level))
+near_test t level v m e g = sym (ap (λ (b : Bool). is_finite level && b) (ap (λ (x : Float). Ieee.le x t) (sym e) ∙ g) ∙ and-true (is_finite level))
 
 pub near_none : (t level v m : Float) → m ≡ magnitude (less v level) → Ieee.le m t ≡ false → false ≡ near_level? t level v
 unfolding near_level?
-near_none t level v m e g = sym (ap (λ (b : Bool). is_finite level && b) (ap (λ (x : Float). Ieee.le x t) (sym e) ∙ g) ∙ and_false (is_finite level))
+near_none t level v m e g = sym (ap (λ (b : Bool). is_finite level && b) (ap (λ (x : Float). Ieee.le x t) (sym e) ∙ g) ∙ and-false (is_finite level))
 
 -- a level tested and then taken or not
 pub onto_test : (t level v : Float) (b : Bool) → b ≡ near_level? t level v → (k : Bool) → b ≡ k → cond k level v ≡ onto t level v
@@ -41,11 +41,11 @@ onto_test t level v b e k g = chosen level v k (sym e ∙ g)
 -- two values on one side of a level, and two on either side
 pub one_side : (level v w : Float) → beq (Ieee.lt v level) (Ieee.lt w level) ≡ true → false ≡ crossed_by level v w
 unfolding crossed_by
-one_side level v w e = sym (ap (λ (b : Bool). is_finite level && not b) e ∙ and_false (is_finite level))
+one_side level v w e = sym (ap (λ (b : Bool). is_finite level && not b) e ∙ and-false (is_finite level))
 
 pub two-sides : (level v w : Float) → beq (Ieee.lt v level) (Ieee.lt w level) ≡ false → is_finite level ≡ crossed_by level v w
 unfolding crossed_by
-two-sides level v w e = sym (ap (λ (b : Bool). is_finite level && not b) e ∙ and_true (is_finite level))
+two-sides level v w e = sym (ap (λ (b : Bool). is_finite level && not b) e ∙ and-true (is_finite level))
 
 -- ---- the greatest: what is left of the list decides
 
@@ -85,4 +85,4 @@ module _ {A : Type 0} (f : A → A) (l : List A) where
 
   pub change_end : (i : ℕ) (l' : List A) → i ≡ length l → l' ≡ changed i → l' ≡ map f l
   change_end i l' h e =
-      e ∙ ap changed h ∙ ap (λ (x : List A). map f (take (length l) l) ++ x) (drop-length l) ∙ append_nil (map f (take (length l) l)) ∙ ap (map f) (take-length l)
+      e ∙ ap changed h ∙ ap (λ (x : List A). map f (take (length l) l) ++ x) (drop-length l) ∙ append-nil (map f (take (length l) l)) ∙ ap (map f) (take-length l)

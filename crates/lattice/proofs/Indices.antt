@@ -1,6 +1,6 @@
 -- A node's number and its index, the next index, the end of a step, and that nothing of it is large. Assumes nothing.
 use mathlib.Core.Path.{◌≡◌, refl, sym, ap, ap₂, ◌∙◌, subst}
-use mathlib.Core.Bool.{Bool, true, false, ◌&&◌, cond, and_false}
+use mathlib.Core.Bool.{Bool, true, false, ◌&&◌, cond, and-false}
 use mathlib.Core.List.{List, [], ◌∷◌}
 use Prim.Native.Nat.{ℕ, zero, suc, ◌+◌, ◌*◌, ◌/◌, ◌%◌, ◌≤◌, ◌<◌}
 use native.Mathlib.Nat.{mul-le-mul, mul-le-mul_left, mul-add, mul_assoc, mul-one, mod-lt, mod-add-div, div-div-eq-div-mul, div-eq_of_lt, div-lt_iff_lt-mul, mod-eq_of_lt, add-mul-div_left, add-mul-mod_self_left, zero-mod, zero-div, mul-pos}
@@ -168,10 +168,10 @@ module _ (n a d : ℕ) (p : Index) (s : AtNode n a p) (x y z : ℕ) (ex : x ≡ 
   off-x h = rw (le-ltb (along_x n a + step_x d) n (subst (λ (i : ℕ). n ≤ i) sx h)) refl
 
   pub off-y : n ≤ p.y + y → a ≡ end_or_start n a d
-  off-y h = rw (le-ltb (along_y n a + step_y d) n (subst (λ (i : ℕ). n ≤ i) sy h), and_false (ltb (along_x n a + step_x d) n)) refl
+  off-y h = rw (le-ltb (along_y n a + step_y d) n (subst (λ (i : ℕ). n ≤ i) sy h), and-false (ltb (along_x n a + step_x d) n)) refl
 
   pub off-z : n ≤ p.z + z → a ≡ end_or_start n a d
-  off-z h = rw (le-ltb (along_z n a + step_z d) n (subst (λ (i : ℕ). n ≤ i) sz h), and_false (ltb (along_y n a + step_y d) n), and_false (ltb (along_x n a + step_x d) n)) refl
+  off-z h = rw (le-ltb (along_z n a + step_z d) n (subst (λ (i : ℕ). n ≤ i) sz h), and-false (ltb (along_y n a + step_y d) n), and-false (ltb (along_x n a + step_x d) n)) refl
 
   pub stays : p.x + x < n → p.y + y < n → p.z + z < n → a + (x + n * y + n * n * z) ≡ end_or_start n a d
   stays hx hy hz =

@@ -1,7 +1,7 @@
 -- Edges noted one after the other: `EdgesNoted` puts together, and what a step, a node and the whole lattice add to the list. Assumes nothing.
 use mathlib.Core.Path.{◌≡◌, refl, sym, ap, ap₂, ◌∙◌, subst}
 use mathlib.Core.Bool.{Bool, true, false, ◌&&◌, cond}
-use mathlib.Core.List.{List, [], ◌∷◌, ◌++◌, append_assoc, append_nil}
+use mathlib.Core.List.{List, [], ◌∷◌, ◌++◌, append_assoc, append-nil}
 use Prim.Native.Nat.{ℕ, zero, suc, ◌+◌, ◌*◌, ◌≤◌, ◌<◌}
 use native.Mathlib.Nat.{add-zero, add-suc}
 use native.Mathlib.Omega.{arith}
@@ -85,7 +85,7 @@ module _ (n : ℕ) (lower upper : Float) (values : List Float) where
 
   pub among-more : (t k j : ℕ) → crossed_among n lower upper values t k ++ crossed_among n lower upper values (t + k) j ≡ crossed_among n lower upper values t (k + j)
   unfolding crossed_among
-  among-more t k zero = append_nil (crossed_among n lower upper values t k) ∙ sym (ap (crossed_among n lower upper values t) (add-zero k))
+  among-more t k zero = append-nil (crossed_among n lower upper values t k) ∙ sym (ap (crossed_among n lower upper values t) (add-zero k))
   among-more t k (suc j) =
       sym (append_assoc (crossed_among n lower upper values t k) (crossed_among n lower upper values (t + k) j) _)
       ∙ ap (λ (x : List Edge). x ++ cond (crossed_edge? n lower upper values (edge_at (t + k + j))) (edge_at (t + k + j) ∷ []) []) (among-more t k j)

@@ -1,4 +1,6 @@
 // The lattice of a field over a box: its nodes, the field's values there, and the lattice edges that a level crosses.
+#![tactic(auto)]
+
 pub mod edges;
 pub mod levels;
 mod nodes;

@@ -1,4 +1,6 @@
 // The outlines of a surface at a height: the questions of the call, the plane in f64, and the list.
+#![tactic(auto)]
+
 ghost use Rattle.std.specs.Prelude.{◌≡◌, ◌+◌, ◌*◌, ◌/◌, ◌≤◌, length, nat_abs};
 ghost use Rattle.rounding.specs.Fraction.{Is};
 ghost use Rattle.layers.specs.Layer.{layered?};

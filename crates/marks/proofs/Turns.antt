@@ -8,7 +8,7 @@ use mathlib.Core.List.{List, ◌++◌}
 use lib.Dec.{eqb}
 use lib.ListN.{length, get_or, set, drop, replicate, length-set, length-replicate, get_or-replicate}
 use lib.Seq.{get_or-set_other}
-use borrow.Author.Tests.{eqb-true, eqb-false, not_true, not-false}
+use borrow.Author.Tests.{eqb-true, eqb-false, not-true, not-false}
 use mir.Val.{bool_byte}
 use Rattle.surface.specs.Closed.{one, sides, Closed}
 use Rattle.surface.specs.Triangle.{triangles}
@@ -62,7 +62,7 @@ module _ (c w : List ℕ) (stamps s x y k z m : ℕ) (e : z ≡ at c (nx k)) (f 
 
   pub strange_y : m ≡ s → (z ≡ x → ⊥) → Strange c w stamps s x y k (not (eqb z y))
   strange_y g n = record {
-    yea = λ q. (ap (λ (i : ℕ). at w (stamps + i)) (sym e) ∙ sym f ∙ g, (λ h. n (e ∙ h)), λ h. eqb-false z y (not_true (eqb z y) q) (e ∙ h));
+    yea = λ q. (ap (λ (i : ℕ). at w (stamps + i)) (sym e) ∙ sym f ∙ g, (λ h. n (e ∙ h)), λ h. eqb-false z y (not-true (eqb z y) q) (e ∙ h));
     nay = λ q h. inr (sym e ∙ eqb-true z y (not-false (eqb z y) q));
   }
 

@@ -1,5 +1,7 @@
 // Marks in work words, linear in the triangles: chains of the places of each corner, the labels that a corner carries, the sides whose ends have only the opposite corners for common neighbours, and the corners that are joined across a side.
 // The words before `chains` are those of `sides`: the valences from points on, and the twins from 3 * points + the number of places on.
+#![tactic(auto)]
+
 ghost use Rattle.std.specs.Prelude.{◌≡◌, true, false, ℕ, ◌+◌, ◌*◌, ◌%◌, ◌<◌, ◌≤◌, length};
 ghost use Rattle.halfedges.specs.Place.{at, nx, pv};
 ghost use Rattle.chains.specs.Chain.{walk};

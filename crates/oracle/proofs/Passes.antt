@@ -1,5 +1,5 @@
 -- The passes with their skip are those of crate rounds, at the choices that the floats make.
-use mathlib.Core.Path.{◌≡◌, refl, ap}
+use mathlib.Core.Path.{◌≡◌, refl, ap, ◌∙◌}
 use mathlib.Core.Bool.{Bool, true, false, ◌&&◌, cond}
 use mathlib.Core.List.{List, [], ◌∷◌, map}
 use Rattle.history.specs.History.{Pair, Entry}
@@ -21,7 +21,10 @@ accepts-is s p st d = refl
 pub pass-is : (s : Scene) (p : Pair) (st : State) (ds : List Side) → pass true s p st ds ≡ collapse_pass p (allows s p) st (map (better s p) ds)
 unfolding pass collapse_pass
 pass-is s p st [] = refl
-pass-is s p st (d ∷ ds) = rw (accepts-is s p st (better s p d)) (pass-is s p _ ds)
+pass-is s p st (d ∷ ds) =
+    let m = better s p d in
+    let next : Bool → State = λ b. cond b (collapse_step p st m.keep m.remove) st in
+    ap (λ (b : Bool). pass true s p (next b) ds) (accepts-is s p st m) ∙ pass-is s p (next (may_collapse p st m.keep m.remove && allows s p st m)) ds
 
 either : (k : Bool) (x : Decision) (l r : List Decision) (m n : List Entry) → map entry l ≡ m → map entry r ≡ n → map entry (cond k (x ∷ l) r) ≡ cond k (entry x ∷ m) n
 either true x l r m n e f = ap (λ (t : List Entry). entry x ∷ t) e

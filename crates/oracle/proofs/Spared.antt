@@ -93,6 +93,7 @@ module _ (s : Scene) (p : Pair) where
           first (Memᴰ.head q) = subst (λ (y : Decision). exists p y.keep y.remove ≡ true) (sym q) (there-is st m e)
           first (Memᴰ.tail j) = f _ j
       pick m false e f i = f st (rw e at i)
+  all_there st [] x i = elim i [ ]
 
 -- the test finds just the sides of pieces of just four corners
 module _ {ts : List Tri} (c : Closed ts) (a b : ℕ) (given : 0 < sides ts a b) where

@@ -1,1 +1,2 @@
 // The improver's round on values: definitions (`specs/`) and theorems (`proofs/`), no code.
+#![tactic(auto)]

@@ -2,7 +2,7 @@
 use Prim.Native.Nat.{ℕ, ◌<◌, min, max}
 use mathlib.Core.Path.{◌≡◌, refl, sym, ◌∙◌, ap, ap₂, subst}
 use mathlib.Core.Logic.{◌⊎◌, inl, inr}
-use mathlib.Core.Bool.{Bool, true, false, not, cond, beq, not_not, true≢false, false≢true}
+use mathlib.Core.Bool.{Bool, true, false, not, cond, beq, not-not, true≢false, false≢true}
 use mathlib.Core.List.{List, [], ◌∷◌}
 use native.Mathlib.Omega.{arith}
 use native.Mathlib.Decide.{dec_lt}
@@ -68,14 +68,14 @@ module _ (above : ℕ → Bool) where
       go (rising p q) = not_beq (above x) (above y) (rw (p, q) at k)
       go (falling p q) =
           let e : above x ≡ not (above y) = not_beq (above y) (above x) (rw (p, q) at k) in
-          sym (not_not (above y)) ∙ ap not (sym e)
+          sym (not-not (above y)) ∙ ap not (sym e)
 
   pub ends-crossed : (x y : ℕ) → above y ≡ not (above x) → crossed? above (side_of x y) ≡ true
   ends-crossed x y e = go (ends x y)
     where
       go : Ends x y → crossed? above (side_of x y) ≡ true
       go (rising p q) = rw (p, q) (beq_not (above x) (above y) e)
-      go (falling p q) = rw (p, q) (beq_not (above y) (above x) (sym (not_not (above x)) ∙ ap not (sym e)))
+      go (falling p q) = rw (p, q) (beq_not (above y) (above x) (sym (not-not (above x)) ∙ ap not (sym e)))
 
   -- the end of a kind
   pub end_from : (up : Bool) (x y : ℕ) → above x ≡ up → above y ≡ not up → end_of above up (side_of x y) ≡ x
@@ -86,7 +86,7 @@ module _ (above : ℕ → Bool) where
       go (falling p q) = rw (p, q, beq_other (above y) up f) refl
 
   pub end_to : (up : Bool) (x y : ℕ) → above x ≡ up → above y ≡ not up → end_of above (not up) (side_of x y) ≡ y
-  end_to up x y e f = ap (end_of above (not up)) (side_swap x y) ∙ end_from (not up) y x f (e ∙ sym (not_not up))
+  end_to up x y e f = ap (end_of above (not up)) (side_swap x y) ∙ end_from (not up) y x f (e ∙ sym (not-not up))
 
 pub apex_has : (ts : List Tri) (x y : ℕ) → 0 < sides ts x y → Has x y (apex_of ts x y) ts
 unfolding apex_of sides
@@ -112,7 +112,7 @@ module _ (above : ℕ → Bool) (ts : List Tri) (c : Surface ts) where
   pub beyond : (up : Bool) (s : Side) → At above ts up s → At above ts (not up) s
   beyond up s a =
       let h = side-has ts a.y a.x (omega (arith, c.even a.x a.y, has-side a.has)) in
-      record { x = a.y; y = a.x; z = h.0; has = h.1; is = a.is ∙ side_swap a.x a.y; from = a.to; to = a.from ∙ sym (not_not up) }
+      record { x = a.y; y = a.x; z = h.0; has = h.1; is = a.is ∙ side_swap a.x a.y; from = a.to; to = a.from ∙ sym (not-not up) }
 
   pub either_way : (up down : Bool) (s : Side) → At above ts up s → At above ts down s
   either_way up down s a = go (either down up)
@@ -134,7 +134,7 @@ module _ (above : ℕ → Bool) (ts : List Tri) (c : Surface ts) where
 
   pub to-larger : (s : Side) (a : At above ts (above s.low) s) → a.y ≡ s.high
   to-larger s a =
-      sym (at-to (above s.low) a) ∙ ap (λ (b : Bool). cond b s.low s.high) (beq_other (above s.low) (not (above s.low)) (sym (not_not (above s.low))))
+      sym (at-to (above s.low) a) ∙ ap (λ (b : Bool). cond b s.low s.high) (beq_other (above s.low) (not (above s.low)) (sym (not-not (above s.low))))
 
   -- where one goes on to
   pub next-crossed-is : (up : Bool) (s : Side) (a : At above ts up s) → next_crossed above ts up s ≡ cond (beq (above a.z) up) (side_of a.z a.y) (side_of a.x a.z)
@@ -169,7 +169,7 @@ module _ (above : ℕ → Bool) (ts : List Tri) (c : Surface ts) where
           has = spin a.has;
           is = next-crossed-is up s a ∙ ap (λ (k : Bool). cond k (side_of a.z a.y) (side_of a.x a.z)) (beq_same (above a.z) up e) ∙ side_swap a.z a.y;
           from = a.to;
-          to = e ∙ sym (not_not up);
+          to = e ∙ sym (not-not up);
         };
         apex = inl (e, refl, refl, refl);
       }
@@ -181,7 +181,7 @@ module _ (above : ℕ → Bool) (ts : List Tri) (c : Surface ts) where
           has = spin (spin a.has);
           is = next-crossed-is up s a ∙ ap (λ (k : Bool). cond k (side_of a.z a.y) (side_of a.x a.z)) (beq_other (above a.z) up e) ∙ side_swap a.x a.z;
           from = e;
-          to = a.from ∙ sym (not_not up);
+          to = a.from ∙ sym (not-not up);
         };
         apex = inr (e, refl, refl, refl);
       }
@@ -198,7 +198,7 @@ module _ (above : ℕ → Bool) (ts : List Tri) (c : Surface ts) where
           pick : Apex up s (next_crossed above ts up s) a n
               → cond (beq (above n.z) (not up)) (side_of n.z n.y) (side_of n.x n.z) ≡ s
           pick (inl k) =
-              ap (λ (b : Bool). cond b (side_of n.z n.y) (side_of n.x n.z)) (beq_other (above n.z) (not up) (ap above k.3 ∙ a.from ∙ sym (not_not up)))
+              ap (λ (b : Bool). cond b (side_of n.z n.y) (side_of n.x n.z)) (beq_other (above n.z) (not up) (ap above k.3 ∙ a.from ∙ sym (not-not up)))
               ∙ ap₂ side_of k.1 k.3 ∙ side_swap a.y a.x ∙ sym a.is
           pick (inr k) =
               ap (λ (b : Bool). cond b (side_of n.z n.y) (side_of n.x n.z)) (beq_same (above n.z) (not up) (ap above k.3 ∙ a.to))
@@ -270,6 +270,7 @@ module _ (above : ℕ → Bool) where
           let e : side_of t.c t.a ≡ side_of x y = ap₂ side_of p q in
           insert-crossed-old (side_of x y) (side_of t.a t.b) (two t ts) (insert-crossed-old (side_of x y) (side_of t.b t.c) (three t ts)
           (subst (λ (s : Side). In s (three t ts)) e (insert-crossed-new (side_of t.c t.a) (crossings above ts) (ap (crossed? above) e ∙ k))))
+  crossings-whole {x = x} {y = y} {z = z} [] x3 k = elim x3 [ ]
 
   -- a crossed side of a triangle of the list
   pub record Found (ts : List Tri) (s : Side) : Type 0 where
@@ -322,5 +323,5 @@ module _ (above : ℕ → Bool) (ts : List Tri) (c : Surface ts) where
     ahead = λ s h. at-found (not up) (next_crossed above ts up s) (goes_on above ts c up s (found_at up s h)).next;
     back = λ s h. at-found (not (not up)) (next_crossed above ts (not up) s) (goes_on above ts c (not up) s (found_at (not up) s h)).next;
     there = λ s h. next-crossed-back above ts c up s (found_at up s h);
-    again = λ s h. ap (λ (k : Bool). next_crossed above ts k (next_crossed above ts (not up) s)) (sym (not_not up)) ∙ next-crossed-back above ts c (not up) s (found_at (not up) s h);
+    again = λ s h. ap (λ (k : Bool). next_crossed above ts k (next_crossed above ts (not up) s)) (sym (not-not up)) ∙ next-crossed-back above ts c (not up) s (found_at (not up) s h);
   }

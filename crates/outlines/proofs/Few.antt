@@ -2,7 +2,7 @@
 use Prim.Native.Nat.{ℕ, zero, suc, ◌+◌, ◌≤◌, ◌<◌}
 use mathlib.Core.Path.{◌≡◌, refl, sym, ap}
 use mathlib.Core.Logic.{◌⊎◌, inl, inr}
-use mathlib.Core.Bool.{Bool, true, false, not, not_not}
+use mathlib.Core.Bool.{Bool, true, false, not, not-not}
 use mathlib.Core.List.{List, [], ◌∷◌}
 use native.Mathlib.Omega.{arith}
 use lib.ListN.{length, length-append}
@@ -90,7 +90,7 @@ module _ (above : ℕ → Bool) (ts : List Tri) (places : List Place) (o : Outli
 
       go : ((z : ℕ) × Reads t p.first.low p.first.high z) ⊎ ((z : ℕ) × Reads t p.first.high p.first.low z) → crossed_triangle? above t ≡ true
       go (inl r) = read-crossed above t r.1 refl other
-      go (inr r) = read-crossed above t r.1 other (sym (not_not (above p.first.low)))
+      go (inr r) = read-crossed above t r.1 other (sym (not-not (above p.first.low)))
 
   none-joined : (t : Tri) → crossed_triangle? above t ≡ false → (l : List Neighbours) → Each (λ (p : Neighbours). crossed? above p.first ≡ true) l → tally (joins? t) l ≡ 0
   unfolding Each tally

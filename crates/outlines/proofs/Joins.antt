@@ -2,7 +2,7 @@
 use Prim.Native.Nat.{ℕ, ◌+◌, ◌<◌}
 use mathlib.Core.Path.{◌≡◌, refl, sym, ◌∙◌, ap, ap₂}
 use mathlib.Core.Logic.{◌⊎◌, inl, inr}
-use mathlib.Core.Bool.{Bool, true, false, not, ◌&&◌, ◌||◌, beq, not_not, or_comm, false≢true}
+use mathlib.Core.Bool.{Bool, true, false, not, ◌&&◌, ◌||◌, beq, not-not, or_comm, false≢true}
 use mathlib.Core.List.{List}
 use native.Mathlib.Omega.{arith}
 use lib.Dec.{eqb}
@@ -164,7 +164,7 @@ module _ (above : ℕ → Bool) (ts : List Tri) (c : Surface ts) (up : Bool) whe
 
           x-is : a.x ≡ n.y
           x-is =
-              sym (at_from above ts c up a) ∙ ap (end_of above up) (e ∙ n.is ∙ side_swap n.x n.y) ∙ end_from above up n.y n.x (n.to ∙ not_not up) n.from
+              sym (at_from above ts c up a) ∙ ap (end_of above up) (e ∙ n.is ∙ side_swap n.x n.y) ∙ end_from above up n.y n.x (n.to ∙ not-not up) n.from
 
           pick : Apex above ts c up s (next_crossed above ts up s) a n → ⊥
           pick (inl k) = differ3 c a.has (sym k.2 ∙ sym x-is)

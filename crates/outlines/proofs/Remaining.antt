@@ -2,7 +2,7 @@
 use Prim.Native.Nat.{ℕ, ◌+◌, ◌<◌}
 use mathlib.Core.Path.{◌≡◌, refl, sym, ◌∙◌, ap, ap₂}
 use mathlib.Core.Logic.{◌⊎◌, inl, inr}
-use mathlib.Core.Bool.{Bool, true, false, not, ◌&&◌, cond, and_false}
+use mathlib.Core.Bool.{Bool, true, false, not, ◌&&◌, cond, and-false}
 use mathlib.Core.List.{List, [], ◌∷◌, map}
 use native.Mathlib.Omega.{arith}
 use lib.Dec.{eqb, ltb}
@@ -66,7 +66,7 @@ module _ (c : List ℕ) (p : ℕ) (closed : Closed (triangles c)) where
       shut : open? c p (with_mark c p w k) (up_place c p w k) ≡ false
       shut =
           let e : at (with_mark c p w k) (marks-from c p + up_place c p w k) ≡ 1 = get_or-set_same w (marks-from c p + up_place c p w k) 1 0 (omega (arith, up-low c p w k r l, r.room)) in
-          ap (λ (x : ℕ). crossed_place c p (with_mark c p w k) (up_place c p w k) && eqb x 0) e ∙ and_false (crossed_place c p (with_mark c p w k) (up_place c p w k))
+          ap (λ (x : ℕ). crossed_place c p (with_mark c p w k) (up_place c p w k) && eqb x 0) e ∙ and-false (crossed_place c p (with_mark c p w k) (up_place c p w k))
 
       -- and no other
       stays : (u : ℕ) → u < length c → (u ≡ up_place c p w k → ⊥) → open? c p (with_mark c p w k) u ≡ open? c p w u

@@ -1,7 +1,7 @@
 -- The sides in turn: a side that is not open changes nothing, an open one has its loop followed.
 use Prim.Native.Nat.{ℕ, suc, ◌+◌, ◌<◌, ◌≤◌}
 use mathlib.Core.Path.{◌≡◌, refl, sym, ◌∙◌, ap, ap₂, subst}
-use mathlib.Core.Bool.{Bool, true, false, ◌&&◌, cond, and_false}
+use mathlib.Core.Bool.{Bool, true, false, ◌&&◌, cond, and-false}
 use mathlib.Core.List.{List, [], ◌∷◌}
 use native.Mathlib.Omega.{arith}
 use native.Mathlib.Numerals.{add-one}
@@ -47,7 +47,7 @@ module _ (c : List ℕ) (p n k : ℕ) (w l : List ℕ) (f q : ℕ) where
   traced_shut b e d = traced_kept (ap (λ (o : Bool). o && ltb f n) (sym e ∙ d))
 
   pub traced_full : n ≤ f → SideTraced c p n k w w l l f q f
-  traced_full m = traced_kept (ap (λ (o : Bool). open? c p w k && o) (le-ltb f n m) ∙ and_false (open? c p w k))
+  traced_full m = traced_kept (ap (λ (o : Bool). open? c p w k && o) (le-ltb f n m) ∙ and-false (open? c p w k))
 
   pub traced_loop : (b : Bool) (w' l' : List ℕ) (r : ℕ) → b ≡ open? c p w k → b ≡ true → f < n → Followed c p w w' l l' (loop_of c p w n f k) f q r → SideTraced c p n k w w' l l' f q r
   traced_loop b w' l' r e d m h =

@@ -2,7 +2,7 @@
 use Prim.Native.Nat.{ℕ, zero, suc, ◌+◌, ◌≤◌, ◌<◌}
 use mathlib.Core.Path.{◌≡◌, refl, sym, ◌∙◌, ap, ap₂, subst}
 use mathlib.Core.Logic.{◌⊎◌, inl, inr}
-use mathlib.Core.Bool.{Bool, true, false, not, ◌&&◌, cond, beq, not_not, true≢false}
+use mathlib.Core.Bool.{Bool, true, false, not, ◌&&◌, cond, beq, not-not, true≢false}
 use mathlib.Core.List.{List, [], ◌∷◌, map}
 use native.Mathlib.Omega.{arith}
 use lib.Dec.{eqb}
@@ -89,10 +89,10 @@ module _ (above : ℕ → Bool) (ts : List Tri) (c : Surface ts) where
       found : (u v : ℕ) → d ≡ side_of u v → Turned a.x a.y w u v → d ≡ next_crossed above ts up b
       found u v m (zero-turns p q) = absurd (j.differ (a.is ∙ sym (ap₂ side_of p q) ∙ sym m))
       found u v m (one_turn p q) =
-          let z : above a.z ≡ up = ap above (sym (q ∙ apex)) ∙ crossed u v m ∙ ap not (ap above p ∙ a.to) ∙ not_not up in
+          let z : above a.z ≡ up = ap above (sym (q ∙ apex)) ∙ crossed u v m ∙ ap not (ap above p ∙ a.to) ∙ not-not up in
           m ∙ ap₂ side_of p (q ∙ apex) ∙ side_swap a.y a.z ∙ sym (goes true (beq_same (above a.z) up z))
       found u v m (two-turns p q) =
-          let z : above a.z ≡ not up = ap above (sym (p ∙ apex)) ∙ sym (not_not (above u)) ∙ ap not (sym (crossed u v m)) ∙ ap not (ap above q ∙ a.from) in
+          let z : above a.z ≡ not up = ap above (sym (p ∙ apex)) ∙ sym (not-not (above u)) ∙ ap not (sym (crossed u v m)) ∙ ap not (ap above q ∙ a.from) in
           m ∙ ap₂ side_of (p ∙ apex) q ∙ side_swap a.z a.x ∙ sym (goes false (beq_other (above a.z) up z))
 
       go : ((v : ℕ) × Reads (place ts i) e.x e.y v) ⊎ ((v : ℕ) × Reads (place ts i) e.y e.x v) → d ≡ next_crossed above ts up b
@@ -119,10 +119,10 @@ module _ (above : ℕ → Bool) (ts : List Tri) (c : Surface ts) where
       go : ((v : ℕ) × Reads t eb.x eb.y v) ⊎ ((v : ℕ) × Reads t eb.y eb.x v) → d ≡ next_crossed above ts up b
       go (inl r) = leads-on up s.0 s.1 b d eb ed r.1 (joined t b d s.2)
       go (inr r) =
-          let back : At above ts (not up) b = record { x = eb.y; y = eb.x; z = r.0; has = place-has ts s.0 s.1 r.1; is = eb.is ∙ side_swap eb.x eb.y; from = eb.to; to = eb.from ∙ sym (not_not up) } in
+          let back : At above ts (not up) b = record { x = eb.y; y = eb.x; z = r.0; has = place-has ts s.0 s.1 r.1; is = eb.is ∙ side_swap eb.x eb.y; from = eb.to; to = eb.from ∙ sym (not-not up) } in
           let is-a : next_crossed above ts (not up) b ≡ a = ap (next_crossed above ts (not up)) e ∙ next-crossed-back above ts c up a ea in
           let j : joins? t (pair b a) ≡ true = ap (λ (x : Side). joins? t (pair b x)) (sym is-a) ∙ joins_through above ts c (not up) t b back r.1 in
-          absurd (omega (arith, m s.0 s.1 (read-crossed above t r.1 eb.to (eb.from ∙ sym (not_not up))), ap one (joins-back t b a j), ap one s.2))
+          absurd (omega (arith, m s.0 s.1 (read-crossed above t r.1 eb.to (eb.from ∙ sym (not-not up))), ap one (joins-back t b a j), ap one s.2))
 
   chain-from : (up : Bool) (start a b : Side) (w : List Side) → At above ts up start → At above ts up a → AllAt up (b ∷ w) → b ≡ next_crossed above ts up a → Each (Shared ts) (neighbours_from start b w)
       → AtMostOnce (pair a b ∷ neighbours_from start b w) → Chain (next_crossed above ts up) start (next_crossed above ts up b) w

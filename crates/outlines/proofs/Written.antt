@@ -1,7 +1,7 @@
 -- The answer list: places written one after the other are the words of the places.
 use Prim.Native.Nat.{ℕ, zero, suc, ◌+◌, ◌*◌, ◌<◌, ◌≤◌}
 use mathlib.Core.Path.{◌≡◌, refl, sym, ◌∙◌, ap, ap₂}
-use mathlib.Core.List.{List, [], ◌∷◌, ◌++◌, map, append_assoc, append_nil}
+use mathlib.Core.List.{List, [], ◌∷◌, ◌++◌, map, append_assoc, append-nil}
 use native.Mathlib.Omega.{arith}
 use lib.ListN.{length, set, drop, length-append, length-drop, length-map}
 use lib.Seq.{drop-drop}
@@ -55,7 +55,7 @@ write_sides l f q (s ∷ ss) = write_sides (put3 l f s.low s.high q) (suc f) q s
 sides-written : (done : List Place) (r : List ℕ) (f q : ℕ) (ss : List Side) → length done ≡ f → 3 * length ss ≤ length r
     → write_sides (place_words done ++ r) f q ss ≡ place_words (done ++ map (place_of q) ss) ++ drop (3 * length ss) r
 unfolding write_sides
-sides-written done r f q [] e l = ap (λ (d : List Place). place_words d ++ r) (sym (append_nil done))
+sides-written done r f q [] e l = ap (λ (d : List Place). place_words d ++ r) (sym (append-nil done))
 sides-written done r f q (s ∷ ss) e l =
     let three : 3 ≤ length r = omega arith in
     ap (λ (m : List ℕ). write_sides m (suc f) q ss) (put3-words done r f q s e three)
@@ -77,7 +77,7 @@ write_loops l f q (k ∷ ks) = write_loops (write_sides l f q (k.start ∷ k.res
 pub loops-written : (done : List Place) (r : List ℕ) (f q : ℕ) (ls : List Loop) → length done ≡ f → 3 * length (sides_of ls) ≤ length r
     → write_loops (place_words done ++ r) f q ls ≡ place_words (done ++ numbered_loops q ls) ++ drop (3 * length (sides_of ls)) r
 unfolding write_loops numbered_loops sides_of
-loops-written done r f q [] e l = ap (λ (d : List Place). place_words d ++ r) (sym (append_nil done))
+loops-written done r f q [] e l = ap (λ (d : List Place). place_words d ++ r) (sym (append-nil done))
 loops-written done r f q (k ∷ ks) e l =
     let n = length-append k.rest (sides_of ks) in
     let ss = k.start ∷ k.rest in

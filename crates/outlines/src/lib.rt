@@ -2,6 +2,8 @@
 // A place k of the corner list stands for the side that its triangle runs from the corner there to the one after it.
 // The lent words, area by area: what `list_sides` leaves; a word for each point, its kind, 1 where it lies above the plane and else 0; and a word for each place, the mark, 1 where some loop has its side. A side's mark is that of the place which runs it from its smaller corner.
 // The answer, `places`, has three words for each crossed side: the smaller corner, the larger, and the number of its loop.
+#![tactic(auto)]
+
 ghost use Rattle.std.specs.Prelude.{◌≡◌, ◌+◌, ◌*◌, ◌-◌, ◌/◌, ◌%◌, ◌<◌, ◌≤◌, length};
 ghost use Rattle.sides.specs.Side.{twins-from, sides-from, sorted};
 ghost use Rattle.sides.specs.Order.{Upward};

@@ -1,4 +1,6 @@
 // The powder tariff: the price of a surface's exact volume.
+#![tactic(auto)]
+
 ghost use Rattle.std.specs.Prelude.{◌≡◌, ◌^◌, ◌<◌, min};
 ghost use Rattle.volume.specs.Exact.{six_in};
 ghost use Rattle.price.specs.Price.{started, amount};

@@ -1,5 +1,7 @@
 // The printed check of a text sheet: its verdict, its smallest quality and its volume, as text. What is
 // printed of a text is `specs/Printed.antt`.
+#![tactic(auto)]
+
 ghost use Rattle.std.specs.Prelude.{◌≡◌, not, ◌<◌, ◌^◌, ◌/◌, ◌%◌, T};
 ghost use Rattle.std.specs.Float.Ieee.{is_nan};
 ghost use Rattle.sheet.specs.Contents.{contents};

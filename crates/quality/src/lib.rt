@@ -1,4 +1,6 @@
 // One triangle of a surface, by the points of its corners: its quality and its share of the volume, with each operation rounded in the order of `validate`.
+#![tactic(auto)]
+
 ghost use Rattle.std.specs.Prelude.{◌≡◌, true};
 ghost use Rattle.float.specs.Point.{dotted};
 ghost use Rattle.quality.specs.Quality.{scale, normal, squares, quality, wedge, least_with};

@@ -1,4 +1,6 @@
 // The questions that all calls share: whether the lent lists are a surface, and then whether it is one that may be edited; and why a call is refused.
+#![tactic(auto)]
+
 ghost use Rattle.std.specs.Prelude.{◌≡◌, ℕ, ◌+◌, ◌*◌, ◌<◌};
 ghost use Rattle.float.specs.Order.{is_finite};
 ghost use Rattle.halfedges.specs.Place.{at};

@@ -11,7 +11,6 @@ use lib.ListN.{length, take, drop, replicate}
 use lib.Seq.{take_at}
 use Rattle.sheet.specs.Edition.{edition}
 use Rattle.sheet.specs.Sheet.{Sheet, places_of, corners_of, labels_of}
-use Rattle.sheet.specs.Contents as Contents
 use Rattle.sheet.specs.Contents.{Contents, Says, contents}
 use Rattle.sheet.specs.Stages.{IsFound}
 use Rattle.sheet.proofs.Contents.{contents-laws}

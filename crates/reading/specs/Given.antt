@@ -3,7 +3,6 @@ use Rattle.std.specs.Prelude.{ℕ, ◌-◌, ◌*◌, ◌≡◌, Bool, false, ◌
 use Rattle.std.specs.Float.{fin}
 use Rattle.sheet.specs.Edition.{edition}
 use Rattle.sheet.specs.Sheet.{Sheet, places_of, corners_of, labels_of}
-use Rattle.sheet.specs.Contents as Contents
 use Rattle.sheet.specs.Contents.{Contents}
 use Rattle.reading.specs.declared.Answer.{Answer}
 use Rattle.reading.specs.declared.Answer.TheVariants as declared

@@ -1,5 +1,6 @@
 // Reads a text sheet of either edition: its points as floats, its corners and its labels. What a call
 // gives is `specs/Given.antt`.
+#![tactic(auto)]
 
 ghost use Rattle.std.specs.Prelude.{◌≡◌, false, ◌≤◌, length, replicate, pos};
 ghost use Rattle.std.specs.Float.{fin};

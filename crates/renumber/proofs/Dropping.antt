@@ -4,7 +4,7 @@ use native.Mathlib.Numerals.{add-one}
 use native.Mathlib.Omega.{arith}
 use mathlib.Core.Path.{◌≡◌, refl, sym, ◌∙◌, ap, ap₂, subst}
 use mathlib.Core.Bool.{Bool, true, false, not, cond}
-use mathlib.Core.List.{List, [], ◌∷◌, ◌++◌, append_nil, append_assoc}
+use mathlib.Core.List.{List, [], ◌∷◌, ◌++◌, append-nil, append_assoc}
 use lib.Dec.{eqb}
 use lib.ListN.{length, length-append, get_or, take, drop, set, length-set, length-drop, length-map, get_or-map}
 use lib.Seq.{take-suc, take-set-le, take-suc-set, take_all, length-take-le, get_or-set_other, get_or-take, get_or-drop}
@@ -158,7 +158,7 @@ module _ (c ls w : List ℕ) (into gone : ℕ) where
       one-stays t x g m = kept_more gs t x i (omega (arith, gs_length)) m ∙ ap (λ (k : Bool). kept gs t i ++ cond k [] (get_or t i x ∷ [])) g
 
       one_goes : {A : Type 0} (t : List A) (x : A) → get_or gs i false ≡ true → i < length t → kept gs t (i + 1) ≡ kept gs t i
-      one_goes t x g m = kept_more gs t x i (omega (arith, gs_length)) m ∙ ap (λ (k : Bool). kept gs t i ++ cond k [] (get_or t i x ∷ [])) g ∙ append_nil (kept gs t i)
+      one_goes t x g m = kept_more gs t x i (omega (arith, gs_length)) m ∙ ap (λ (k : Bool). kept gs t i ++ cond k [] (get_or t i x ∷ [])) g ∙ append-nil (kept gs t i)
 
       stays : (a b d : ℕ) → a ≡ becomes w into (at c' (3 * i)) → b ≡ becomes w into (at c' (3 * i + 1)) → d ≡ becomes w into (at c' (3 * i + 2))
           → get_or gs i false ≡ false → Dropping (next-c a b d) next_l (i + 1) (q + 1)

@@ -88,6 +88,7 @@ met-part c k =
 mem_at : (c : List ℕ) (v : ℕ) → Memᴰ v c → (k : ℕ) × (k < length c) × (at c k ≡ v)
 mem_at (x ∷ c) v (Memᴰ.head e) = (0, omega arith, sym e)
 mem_at (x ∷ c) v (Memᴰ.tail m) = let r = mem_at c v m in (suc r.0, omega (arith, r.1), r.2)
+mem_at [] v x' = elim x' [ ]
 
 met-few : (c : List ℕ) (p : ℕ) → length c % 3 ≡ 0 → ((k : ℕ) → k < length c → at c k < p) → length (met [] c) ≤ p
 unfolding first_use

@@ -1,4 +1,6 @@
 // After the collapses of a round: the triangles that stay move forward, and the corners get new numbers in the order of their first use, each with its point.
+#![tactic(auto)]
+
 ghost use Rattle.std.specs.Prelude.{◌≡◌, ◌+◌, ◌*◌, ◌<◌, ◌≤◌, length};
 ghost use Rattle.renumber.specs.Dropped.{Movable, Moved, Droppable, Dropped};
 ghost use Rattle.renumber.specs.Saved.{Saved};

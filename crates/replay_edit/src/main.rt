@@ -1,10 +1,12 @@
 // Replays vectors of editing: standard input has calls of `lanovishel_edit` with what a model written
 // from document 01 answers, and the program says how many answers and edited lists are the same.
+#![tactic(auto)]
+
 ghost use Rattle.std.specs.Prelude.{◌+◌, ◌≤◌, length};
 ghost use Rattle.vectors.specs.Words.{count_of};
 ghost use Rattle.replay_edit.specs.Replay.{onward};
 
-use libc::{STDIN_FILENO, STDOUT_FILENO};
+use std::io;
 use vectors::Listed;
 
 // A vector that was replayed: the word after it, and whether the answer is the model's. Or none
@@ -224,12 +226,9 @@ fn replay(text: &[u8]) -> Tally {
     tally
 }
 
-fn main() {
+fn main(rt: HostRuntime) -> io::Result<()> {
     let mut text = [0u8; 262144];
-    let n = io::read_full(STDIN_FILENO, &mut text);
-    let tally = replay(&text[..n]);
-    io::print_decimal(STDOUT_FILENO, tally.vectors);
-    io::write_all(STDOUT_FILENO, b" vectors, ");
-    io::print_decimal(STDOUT_FILENO, tally.same);
-    io::write_all(STDOUT_FILENO, b" as they must be\n");
+    let n = input::read_full(&mut rt.stdin(), &mut text)?;
+    let Tally { vectors, same } = replay(&text[..n]);
+    println!(rt; "{vectors} vectors, {same} as they must be")
 }

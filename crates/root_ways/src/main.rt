@@ -1,9 +1,12 @@
 // Counts what decides a root: the guess, the number above it, the number below it, or the digits. The
 // first row is of 10,000,000 numbers, the second of the f64 just below 1, which only the digits decide.
+#![tactic(auto)]
+
 ghost use Rattle.std.specs.Prelude.{◌-◌, ◌^◌, ◌≤◌, ◌<◌};
 
 use float::guess::{guess, nearest_of_three};
-use libc::STDOUT_FILENO;
+use std::io;
+use std::io::Write;
 
 // The number after x in Marsaglia's xorshift generator with the shifts 13, 7 and 17.
 fn after(x: u64) -> u64 {
@@ -57,21 +60,22 @@ fn decided(mut x: u64, numbers: u64, by: u64) -> u64 {
     count
 }
 
-fn print_count(before: &[u8], x: u64, numbers: u64, by: u64) {
-    io::write_all(STDOUT_FILENO, before);
-    io::print_decimal(STDOUT_FILENO, decided(x, numbers, by));
+fn print_count(rt: &impl Print, before: &[u8], x: u64, numbers: u64, by: u64) -> io::Result<()> {
+    io::writer(rt).write_all(before)?;
+    let count = decided(x, numbers, by);
+    print!(rt; "{count}")
 }
 
-fn print_row(x: u64, numbers: u64) {
-    print_count(b"", x, numbers, 0);
-    print_count(b" ", x, numbers, 1);
-    print_count(b" ", x, numbers, 2);
-    print_count(b" ", x, numbers, 3);
-    io::write_all(STDOUT_FILENO, b"\n");
+fn print_row(rt: &impl Print, x: u64, numbers: u64) -> io::Result<()> {
+    print_count(rt, b"", x, numbers, 0)?;
+    print_count(rt, b" ", x, numbers, 1)?;
+    print_count(rt, b" ", x, numbers, 2)?;
+    print_count(rt, b" ", x, numbers, 3)?;
+    println!(rt; "")
 }
 
-fn main() {
-    io::write_all(STDOUT_FILENO, b"guess above below digits\n");
-    print_row(1, 10_000_000);
-    print_row(0x3fef_ffff_ffff_ffff, 1);
+fn main(rt: HostRuntime) -> io::Result<()> {
+    println!(rt; "guess above below digits")?;
+    print_row(&rt, 1, 10_000_000)?;
+    print_row(&rt, 0x3fef_ffff_ffff_ffff, 1)
 }

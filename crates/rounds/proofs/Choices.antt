@@ -29,6 +29,7 @@ pub all_mem : {A : Type 0} (f : A → Bool) (l : List A) (x : A) → every f l �
 unfolding every
 all_mem f (y ∷ l) x e (Memᴰ.head p) = ap f p ∙ (both (f y) (every f l) e).0
 all_mem f (y ∷ l) x e (Memᴰ.tail m) = all_mem f l x (both (f y) (every f l) e).1 m
+all_mem {A = A} f [] x e x4 = elim x4 [ ]
 
 first-has : (a b : ℕ) (ts : List Tri) → first a b ts < length ts → has a b (place ts (first a b ts)) ≡ true
 unfolding first

@@ -40,6 +40,7 @@ origin f (t ∷ ts) (here (r0 p q r)) = record { x0 = t.a; y0 = t.b; z0 = t.c; w
 origin f (t ∷ ts) (here (r1 p q r)) = record { x0 = t.b; y0 = t.c; z0 = t.a; was = here (r1 refl refl refl); ex = p; ey = q; ez = r }
 origin f (t ∷ ts) (here (r2 p q r)) = record { x0 = t.c; y0 = t.a; z0 = t.b; was = here (r2 refl refl refl); ex = p; ey = q; ez = r }
 origin f (t ∷ ts) (there h) = let s = origin f ts h in record { x0 = s.x0; y0 = s.y0; z0 = s.z0; was = there s.was; ex = s.ex; ey = s.ey; ez = s.ez }
+origin f [] {y = y} {z = z} x3 = elim x3 [ ]
 
 -- one to one on a set of corners that holds all of a list's
 module _ (f : ℕ → ℕ) (P : ℕ → Type 0) (one : (x y : ℕ) → P x → P y → f x ≡ f y → x ≡ y) where

@@ -5,7 +5,7 @@ use native.Mathlib.Omega.{arith}
 use mathlib.Core.Path.{◌≡◌, refl, sym, ap, ap₂, ◌∙◌, subst}
 use mathlib.Core.Logic.{◌⊎◌, inl, ⊎_elim}
 use mathlib.Core.Bool.{Bool, true, false, ◌&&◌, ◌||◌, cond}
-use mathlib.Core.List.{List, [], ◌∷◌, ◌++◌, map, append_nil, append_assoc}
+use mathlib.Core.List.{List, [], ◌∷◌, ◌++◌, map, append-nil, append_assoc}
 use lib.Dec.{T, eqb}
 use lib.ListN.{length, get_or, set, take, drop, length-set, length-drop}
 use lib.Seq.{get_or-set_same, get_or-set_other, take-set-le, take-suc-set, drop-set-add}
@@ -260,7 +260,7 @@ module _ (f : ℕ → Bool) (w w' : List ℕ) (count items n i : ℕ) (room : it
       let b = I.few in
       let z : 0 ≡ count - i = omega arith in
       record {
-        list = sym (append_nil (part w' items n)) ∙ ap (λ (m : ℕ). part w' items n ++ chosen f (up_from i m)) z ∙ I.left;
+        list = sym (append-nil (part w' items n)) ∙ ap (λ (m : ℕ). part w' items n ++ chosen f (up_from i m)) z ∙ I.left;
         few = omega arith;
         rest = record { len = I.size; under = I.under; over = I.over };
       }

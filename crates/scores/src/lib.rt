@@ -1,4 +1,6 @@
 // The float part of a round: floats kept in work words, the shapes of the triangles of a list, the squared lengths of its sides and their mean, and the sides that a round tries to collapse.
+#![tactic(auto)]
+
 ghost use Rattle.std.specs.Prelude.{◌≡◌, true, false, ℕ, ◌+◌, ◌*◌, ◌/◌, ◌<◌, ◌≤◌, length};
 ghost use Rattle.surface.specs.Triangle.{tri};
 ghost use Rattle.surface.specs.Closed.{one};

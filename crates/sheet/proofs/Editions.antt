@@ -1,6 +1,6 @@
 -- Which edition a text can be of, by its first byte. Assumes nothing.
 use mathlib.Core.Path.{◌≡◌, sym, ap, ◌∙◌}
-use mathlib.Core.Logic.{◌⊎◌, ⊎_elim}
+use mathlib.Core.Logic.{⊎_elim}
 use mathlib.Core.List.{List, ◌∷◌, nil≢cons}
 use Prim.Native.Nat.{ℕ}
 use native.Mathlib.Omega.{arith}

@@ -3,7 +3,6 @@ use Rattle.std.specs.Prelude.{ℕ, ◌≤◌, ◌<◌, ◌^◌, ◌≡◌, true,
 use Rattle.sheet.specs.Edition.{Edition, edition, IsEdition}
 use Rattle.sheet.specs.Sheet.{Sheet, InRange, text, places_of, corners_of, labels_of}
 use Rattle.sheet.specs.Contents.{Contents, Says, contents}
-use Rattle.sheet.specs.Contents as Contents
 use Rattle.sheet.specs.Conversion.{Converted, convertible?, sheet_in_unit}
 
 -- a text is that of one sheet at most, whatever the edition is

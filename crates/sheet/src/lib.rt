@@ -1,5 +1,6 @@
 // Reads the text sheet of a triangle surface, of either edition, and hands its whole numbers out. What a
 // sheet is, and its text, is `specs/Sheet.antt`; what each function finds is `specs/Stages.antt`.
+#![tactic(auto)]
 
 ghost use Rattle.std.specs.Prelude.{◌≡◌, ◌+◌, ◌*◌, ◌≤◌, ◌<◌, ◌^◌, length, replicate, pos};
 ghost use Rattle.sheet.specs.Text.{minus};

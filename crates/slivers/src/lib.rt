@@ -1,4 +1,6 @@
 // The collapse pass of a round: which short sides of weak triangles are collapsed, noted in work words. The lists stay as they are: a corner's word behind the touched ones says which corner it becomes, and a triangle's word behind those whether it goes.
+#![tactic(auto)]
+
 ghost use Rattle.std.specs.Prelude.{◌≡◌, true, false, ℕ, ◌+◌, ◌*◌, ◌/◌, ◌%◌, ◌<◌, ◌≤◌, length, get_or};
 ghost use Rattle.surface.specs.Triangle.{triangles};
 ghost use Rattle.surface.specs.Edit as Edit;

@@ -1,4 +1,6 @@
 // Where a level cuts the edge between two points of a field: secant steps and halvings, with at most 52 field values.
+#![tactic(auto)]
+
 mod bracket;
 
 ghost use Rattle.std.specs.Prelude.{◌≡◌};

@@ -3,7 +3,7 @@ use Prim.Native.Nat.{ℕ, ◌≤◌, ◌<◌}
 use mathlib.Core.Path.{◌≡◌, refl, sym, ◌∙◌, ap, subst}
 use mathlib.Core.Logic.{◌↔◌, ◌⊎◌, inl, inr}
 use mathlib.Core.Bool.{Bool, true, ◌||◌}
-use mathlib.Core.List.{List, ◌∷◌, Memᴰ}
+use mathlib.Core.List.{List, ◌∷◌, Memᴰ, []}
 use native.Mathlib.Omega.{arith}
 use native.Mathlib.Decide.{dec_lt}
 use lib.Dec.{eqb}
@@ -71,6 +71,7 @@ in_use {v} {ts = ts} h = pick (around ts v) (has-around h)
   where
     pick : {s : Step} (l : List Step) → Memᴰ s l → 0 < length l
     pick (s ∷ l) m = omega arith
+    pick {s = s} [] m = elim m [ ]
 
 -- rules (a) to (c), by what they say of readings and sides
 pub record Fans (ts : List Tri) : Type 0 where

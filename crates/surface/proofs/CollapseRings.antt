@@ -115,7 +115,7 @@ record Opened (f e : ℕ) (rest : List Step) : Type 0 where
 
 opened : {ts : List Tri} → Surface ts → (v e o f : ℕ) (rest : List Step) → Permᴰ (around ts v) (step e o ∷ step o f ∷ rest) → Opened f e rest
 unfolding Leads Balanced
-opened {ts} s v e o f rest p = record { way = way; leads = k.way; all = mathlib.Core.List.Permᴰ.trans (mathlib.Core.List.Permᴰ.symm (mathlib.Core.List.Permᴰ.append_nil way)) (subst (λ (m : List Step). Permᴰ (way ++ m) rest) none k.all) }
+opened {ts} s v e o f rest p = record { way = way; leads = k.way; all = mathlib.Core.List.Permᴰ.trans (mathlib.Core.List.Permᴰ.symm (mathlib.Core.List.Permᴰ.append-nil way)) (subst (λ (m : List Step). Permᴰ (way ++ m) rest) none k.all) }
   where
     k : Followed (length rest) f e rest
     k = follow (length rest) f e rest (omega arith) (λ z. omega (

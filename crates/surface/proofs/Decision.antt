@@ -32,7 +32,7 @@ unfolding every
 place-every f [] h = refl
 place-every f (t ∷ ts) h = join (f t) (every f ts) (h 0 (omega arith)) (place-every f ts (λ i l. h (suc i) (omega arith)))
 
-every-has : (f : Tri → Bool) {ts : List Tri} {x y z : ℕ} → every f ts ≡ true → Has x y z ts → (t : Tri) × (f t ≡ true) × Reads t x y z
+every-has : (f : Tri → Bool) {x y z : ℕ} {ts : List Tri} → every f ts ≡ true → Has x y z ts → (t : Tri) × (f t ≡ true) × Reads t x y z
 unfolding every
 every-has f e (here {t = t} {ts = ts} r) = (t, (both (f t) (every f ts) e).0, r)
 every-has f e (there {t = t} {ts = ts} h) = every-has f (both (f t) (every f ts) e).1 h

@@ -6,7 +6,7 @@ use native.Mathlib.Nat.{add-zero, zero-add}
 use native.Mathlib.Omega.{arith}
 use mathlib.Core.Path.{◌≡◌, refl, sym, ◌∙◌, ap, ap₂, subst}
 use mathlib.Core.Bool.{Bool, true, false}
-use mathlib.Core.List.{List, [], ◌∷◌, ◌++◌, append_nil, append_assoc}
+use mathlib.Core.List.{List, [], ◌∷◌, ◌++◌, append-nil, append_assoc}
 use lib.Dec.{eqb}
 use lib.ListN.{length, get_or, set, drop, replicate, length-set, length-append, length-take, length-drop, length-replicate, get_or-replicate, get_or-append}
 use lib.Seq.{get_or-set_same, get_or-set_other, get_or-append_seam, get_or-take, get_or-drop, ext_get_or}
@@ -124,7 +124,7 @@ module _ (n : ℕ) (c : ℕ → ℕ) where
 
     more-there : (v : ℕ) → (x.at ≡ v → ⊥) → more v ≡ done v
     unfolding more
-    more-there v m = ap (λ (b : Bool). done v ++ keep b x.edge []) (ne_eqb x.at v m) ∙ append_nil (done v)
+    more-there v m = ap (λ (b : Bool). done v ++ keep b x.edge []) (ne_eqb x.at v m) ∙ append-nil (done v)
 
     low : x.at < n
     low = h.listed x.at (omega (arith, ap length (picks-here x l x.at refl)))
@@ -203,7 +203,7 @@ module _ (n : ℕ) (c : ℕ → ℕ) where
       → get_or (linked l fill link) (sum v c + i) (step 0 0) ≡ get_or (done v ++ picks l v) i (step 0 0)
   unfolding linked picks more
   linked-at [] done fill link h v k i b =
-      h.laid v k i (omega (arith, h.room v k, b)) ∙ ap (λ (z : List Step). get_or z i (step 0 0)) (sym (append_nil (done v)))
+      h.laid v k i (omega (arith, h.room v k, b)) ∙ ap (λ (z : List Step). get_or z i (step 0 0)) (sym (append-nil (done v)))
   linked-at (x ∷ l) done fill link h v k i b =
       linked-at l (more done x l fill link h) (raised fill x.at) (set link (get_or fill x.at 0) x.edge) (turn done x l fill link h) v k i b
       ∙ ap (λ (z : List Step). get_or z i (step 0 0)) (append_assoc (done v) (keep (eqb x.at v) x.edge []) (picks l v) ∙ ap (λ (z : List Step). done v ++ z) (onto (eqb x.at v)))

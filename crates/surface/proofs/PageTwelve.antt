@@ -60,6 +60,7 @@ place_in (t ∷ ts) (suc i) l = Memᴰ.tail (place_in ts i (omega arith))
 in_place : {s : Tri} (ts : List Tri) → Memᴰ s ts → (i : ℕ) × (i < length ts) × (place ts i ≡ s)
 in_place (t ∷ ts) (Memᴰ.head e) = (0, omega arith, sym e)
 in_place (t ∷ ts) (Memᴰ.tail m) = let p = in_place ts m in (suc p.0, omega (arith, p.1), p.2)
+in_place {s = s} [] x' = elim x' [ ]
 
 apart : (ts : List Tri) → Distinct ts → Apart ts
 apart [] d = nothing
@@ -81,6 +82,7 @@ mem_back (Permᴰ.swap e f) (Memᴰ.head g) = Memᴰ.tail (Memᴰ.head (g ∙ sy
 mem_back (Permᴰ.swap e f) (Memᴰ.tail (Memᴰ.head g)) = Memᴰ.head (g ∙ sym e)
 mem_back (Permᴰ.swap e f) (Memᴰ.tail (Memᴰ.tail m)) = Memᴰ.tail (Memᴰ.tail m)
 mem_back (Permᴰ.trans d e) m = mem_back d (mem_back e m)
+mem_back {s = s} Permᴰ.nil m = elim m [ ]
 
 fresh_perm : {t : Tri} {ts us : List Tri} → Permᴰ ts us → Fresh t ts → Fresh t us
 fresh_perm p f = record { alone = λ s m. f.alone s (mem_back p m) }
@@ -106,6 +108,7 @@ turns-names k v = reads_names (turns_reads k) v
 mem_each : {t : Tri} {ss ts : List Tri} → EachTurns ss ts → Memᴰ t ts → (s : Tri) × (Memᴰ s ss) × (SameCorners s t)
 mem_each (more {s = s} {t = u} k l) (Memᴰ.head e) = (s, Memᴰ.head refl, λ v. turns-names k v ∙ subst (λ (q : Tri). names u v ≡ names q v) (sym e) refl)
 mem_each (more k l) (Memᴰ.tail m) = let p = mem_each l m in (p.0, Memᴰ.tail p.1, p.2)
+mem_each {t = t} none x4 = elim x4 [ ]
 
 apart-each : {ss ts : List Tri} → EachTurns ss ts → Apart ss → Apart ts
 apart-each none a = nothing

@@ -22,6 +22,7 @@ pub record Placed (ts : List Tri) (x y z : ℕ) : Type 0 where
 pub has-place : {x y z : ℕ} (ts : List Tri) → Has x y z ts → Placed ts x y z
 has-place (t ∷ ts) (here r) = record { at = 0; fits = omega arith; reads = r }
 has-place (t ∷ ts) (there h) = let p = has-place ts h in record { at = suc p.at; fits = omega (arith, p.fits); reads = p.reads }
+has-place {y = y} {z = z} [] x'' = elim x'' [ ]
 
 pub taken : (ts : List Tri) (i : ℕ) → i < length ts → Alike ts (place ts i ∷ without i ts)
 unfolding without

@@ -1,4 +1,6 @@
 // The definitions and laws of closed triangle surfaces; what the judgement of rules (b) and (c) finds; and a triangle by value, read from a lent corner list and written to it.
+#![tactic(auto)]
+
 ghost use Rattle.std.specs.Prelude.{◌≡◌, ◌+◌, ◌*◌, ◌<◌, length};
 ghost use Rattle.surface.specs.Flat.{tri_of, three_at, put_at};
 

@@ -1,4 +1,6 @@
 // Whether coordinates are whole units: whole numbers of 1/1024 within ±32,768.
+#![tactic(auto)]
+
 ghost use Rattle.std.specs.Prelude.{◌≡◌, ◌↔◌, true};
 ghost use Rattle.units.specs.Units.{OnUnits, AllOnUnits};
 

@@ -4,7 +4,7 @@ use native.Mathlib.Nat.{mul-one}
 use mathlib.Core.Path.{◌≡◌, refl, sym, ap, ap₂, ◌∙◌, subst}
 use mathlib.Core.Bool.{Bool, true, false, false≢true}
 use mathlib.Core.Logic.{◌↔◌}
-use mathlib.Core.List.{List, [], ◌∷◌, ◌++◌, append_nil}
+use mathlib.Core.List.{List, [], ◌∷◌, ◌++◌, append-nil}
 use native.Mathlib.Omega.{arith}
 use native.Mathlib.Numerals.{add-one}
 use lib.Dec.{ltb}
@@ -58,7 +58,7 @@ module _ {A : Type 0} (at : ℕ → A) (width k : ℕ) where
       let m = f.long in
       let o : length lent ≤ i = omega arith in
       let n : i ≡ length lent = omega (arith, f.within) in
-      f.list ∙ ap (λ (r : List A). elements at width k i ++ r) (drop_of_length-le lent o) ∙ append_nil (elements at width k i) ∙ ap (elements at width k) n
+      f.list ∙ ap (λ (r : List A). elements at width k i ++ r) (drop_of_length-le lent o) ∙ append-nil (elements at width k i) ∙ ap (elements at width k) n
 
   -- ---- a loop that compares: the first i are as they must be
 

@@ -1,5 +1,6 @@
 // Reads vectors: calls with the answers that they must have, in a text of words. What stands at a
 // word of the text, and what a list in it is, is `specs/Words.antt`.
+#![tactic(auto)]
 
 ghost use Rattle.std.specs.Prelude.{◌≡◌, true, ◌↔◌, ◌+◌, ◌*◌, ◌≤◌, ◌<◌, length};
 ghost use Rattle.vectors.specs.Words.{digit_of, count_of, word_at, joined as Words·joined, float_at, byte_at, elements, listed_is, Reads, IsAt, lent_at, left_at, clears_of};

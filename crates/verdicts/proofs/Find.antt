@@ -1,22 +1,20 @@
 -- The search for a side, and the hinge from its two triangles.
-use Prim.Native.Nat.{ℕ, zero, suc, ◌+◌, ◌*◌, ◌≤◌, ◌<◌}
-use mathlib.Core.Path.{◌≡◌, refl, sym, ◌∙◌, ap, subst}
+use Prim.Native.Nat.{ℕ, suc, ◌+◌, ◌*◌, ◌≤◌, ◌<◌}
+use mathlib.Core.Path.{◌≡◌, refl, sym, ◌∙◌, ap}
 use mathlib.Core.Bool.{Bool, true, false, cond, ◌&&◌}
 use mathlib.Core.List.{List, [], ◌∷◌}
 use native.Mathlib.Omega.{arith}
 use lib.Dec.{eqb}
-use lib.ListN.{length, get_or, take, drop, set, length-set}
-use lib.Seq.{length-take-le, get_or-take, drop-cons, drop-length, take-set-lt}
-use Rattle.surface.specs.Triangle.{Tri, tri, triangles, names, runs}
+use lib.ListN.{length, get_or, drop}
+use lib.Seq.{drop-cons, drop-length}
+use Rattle.surface.specs.Triangle.{Tri, tri, names, runs}
 use Rattle.surface.specs.Closed.{Closed}
-use Rattle.surface.specs.Edit.{has, first, place, later, opposite, Hinge, hinge, flip}
-use Rattle.surface.proofs.Hinged.{Hinged}
+use Rattle.surface.specs.Edit.{has, first, place, later, opposite, Hinge, hinge}
 use Rattle.surface.proofs.Laws.{side-exists, hinge-found}
 use Rattle.history.proofs.Verdict.{first-has}
-use Rattle.surface.specs.Flat.{tri_of, held, three_at}
+use Rattle.surface.specs.Flat.{tri_of, held}
 use Rattle.surface.proofs.Held.{length-held, place-held}
-use Rattle.verdicts.specs.Found.{hinge_of, Ready, SideAt}
-use Rattle.verdicts.specs.declared.Found.{Found}
+use Rattle.verdicts.specs.Found.{SideAt}
 use Rattle.verdicts.proofs.Scan.{not_named}
 
 -- a triangle that does not name a has no side of a

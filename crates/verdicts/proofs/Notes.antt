@@ -1,24 +1,24 @@
 -- The steps around a corner are noted a triangle at a time.
-use Prim.Native.Nat.{ℕ, zero, suc, ◌+◌, ◌*◌, ◌≤◌, ◌<◌}
+use Prim.Native.Nat.{ℕ, zero, suc, ◌+◌, ◌≤◌, ◌<◌}
 use mathlib.Core.Path.{◌≡◌, refl, sym, ◌∙◌, ap, subst}
 use mathlib.Core.Logic.{◌⊎◌, inl, inr}
-use mathlib.Core.Bool.{Bool, true, false, cond, not, ◌&&◌, ◌||◌}
+use mathlib.Core.Bool.{Bool, true, false, ◌||◌}
 use mathlib.Core.List.{List, [], ◌∷◌, ◌++◌}
 use native.Mathlib.Omega.{arith}
 use native.Mathlib.Decide.{ℕ_discrete}
 use lib.Dec.{eqb}
-use lib.ListN.{length, get_or, drop, set, replicate, length-set, length-replicate, get_or-replicate, get_or-eq_default}
+use lib.ListN.{length, get_or, drop, set, replicate, length-set}
 use lib.Seq.{get_or-set_same, get_or-set_other, drop-length}
 use borrow.Author.Tests.{eqb-true, eqb-false, eq-eqb, ne_eqb}
-use Rattle.surface.specs.Triangle.{Tri, tri, names}
-use Rattle.surface.specs.Closed.{sides, Step, around, Closed}
+use Rattle.surface.specs.Triangle.{Tri, names}
+use Rattle.surface.specs.Closed.{sides, Step, around}
 use Rattle.surface.specs.Edit.{place}
-use Rattle.surface.specs.Flat.{tri_of, held, three_at, tri_at}
+use Rattle.surface.specs.Flat.{tri_of, held, three_at}
 use Rattle.surface.proofs.Reading.{Reads, r0, r1, r2, turn, Has, here, there, has-side, side-has}
-use Rattle.surface.proofs.Surface.{Surface, differ2, differ3, next_of}
+use Rattle.surface.proofs.Surface.{Surface, differ3, next_of}
 use Rattle.surface.proofs.Bridge.{closed_surface_lem, in_use}
 use Rattle.surface.proofs.Places.{place-has}
-use Rattle.surface.proofs.Held.{length-held, place-held, read_held, drop-held, drop-held_end}
+use Rattle.surface.proofs.Held.{length-held, read_held, drop-held, drop-held_end}
 use Rattle.surface.specs.Check.{every}
 use Rattle.history.specs.Local.{apart?, no_common?}
 use Rattle.verdicts.specs.Notes.{On, Listed, noted, Noted, apart_by}

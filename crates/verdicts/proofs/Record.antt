@@ -1,20 +1,18 @@
 -- The record of an edit from the hinge that was found.
-use Prim.Native.Nat.{ℕ, zero, suc, ◌+◌, ◌*◌, ◌<◌}
-use mathlib.Core.Path.{◌≡◌, refl, sym, ◌∙◌, ap, subst₂}
-use mathlib.Core.Bool.{Bool, true, false, cond}
-use mathlib.Core.List.{List, [], ◌∷◌, map}
+use Prim.Native.Nat.{ℕ, ◌<◌}
+use mathlib.Core.Path.{◌≡◌, sym, ◌∙◌, ap}
+use mathlib.Core.Bool.{cond}
+use mathlib.Core.List.{List, [], ◌∷◌}
 use native.Mathlib.Omega.{arith}
 use lib.Dec.{eqb}
-use lib.ListN.{length, get_or, take}
+use lib.ListN.{get_or, take}
 use lib.Seq.{get_or-take}
-use borrow.Author.Tests.{eq-eqb, ne_eqb}
-use Rattle.surface.specs.Triangle.{Tri, tri}
-use Rattle.surface.specs.Closed.{around}
-use Rattle.surface.specs.Edit.{Hinge, hinge, place, start_of}
-use Rattle.history.specs.History.{Pair, Entry, label, words}
+use Rattle.surface.specs.Triangle.{Tri}
+use Rattle.surface.specs.Edit.{Hinge, place, start_of}
+use Rattle.history.specs.History.{Pair, label, words}
 use Rattle.surface.specs.Flat.{tri_of, held, three_at}
 use Rattle.history.specs.Flat.{pair_of, entry_of}
-use Rattle.verdicts.specs.Found.{hinge_of, Places, Hung, Ready}
+use Rattle.verdicts.specs.Found.{Hung}
 use Rattle.verdicts.specs.declared.Found.{Found}
 use Rattle.surface.proofs.Held.{place-held}
 

@@ -1,25 +1,24 @@
 -- Tests of all triangles, a triangle at a time.
-use Prim.Native.Nat.{ℕ, zero, suc, ◌+◌, ◌*◌, ◌≤◌, ◌<◌}
-use mathlib.Core.Path.{◌≡◌, refl, sym, ◌∙◌, ap, subst}
-use mathlib.Core.Bool.{Bool, true, false, cond, not, ◌&&◌, ◌||◌}
+use Prim.Native.Nat.{ℕ, suc, ◌+◌, ◌*◌, ◌≤◌, ◌<◌}
+use mathlib.Core.Path.{◌≡◌, refl, sym, ◌∙◌, ap}
+use mathlib.Core.Bool.{Bool, true, false, not, ◌&&◌, ◌||◌}
 use mathlib.Core.List.{List, [], ◌∷◌, ◌++◌}
 use native.Mathlib.Omega.{arith}
 use native.Mathlib.Decide.{dec_lt}
 use lib.Dec.{eqb}
-use lib.ListN.{length, get_or, take, drop, set, length-append}
+use lib.ListN.{length, get_or, drop, length-append}
 use lib.Seq.{drop-cons, drop-length}
 use borrow.Author.Tests.{eqb-true, eqb-false, eq-eqb, ne_eqb}
-use Rattle.surface.specs.Triangle.{Tri, tri, triangles, names}
+use Rattle.surface.specs.Triangle.{Tri, tri, names}
 use Rattle.surface.specs.Closed.{one, sides, Step, step, keep, around, Closed}
 use Rattle.surface.specs.Edit.{has, first, place, Hinge, hinge}
 use Rattle.surface.proofs.Bools.{or_none, none_of}
-use Rattle.surface.proofs.Hinged.{Hinged}
 use Rattle.surface.proofs.Laws.{side-exists, hinge-found}
 use Rattle.surface.specs.Check.{every}
-use Rattle.surface.specs.Flat.{tri_of, held, three_at}
+use Rattle.surface.specs.Flat.{tri_of, held}
 use Rattle.verdicts.specs.Found.{hinge_of, Ready}
 use Rattle.verdicts.specs.declared.Found.{Found}
-use Rattle.history.specs.Local.{apart?, no_common?, collapse?}
+use Rattle.history.specs.Local.{no_common?, collapse?}
 use Rattle.history.proofs.Verdict.{first-has}
 use Rattle.surface.proofs.Held.{length-held, place-held}
 

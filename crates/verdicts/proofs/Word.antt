@@ -1,6 +1,6 @@
 -- The verdict word of an edit from its tests.
-use Prim.Native.Nat.{ℕ, ◌<◌}
-use mathlib.Core.Path.{◌≡◌, refl, sym, ◌∙◌, ap}
+use Prim.Native.Nat.{ℕ}
+use mathlib.Core.Path.{◌≡◌, sym, ◌∙◌, ap}
 use mathlib.Core.Bool.{Bool, true, false, cond}
 use mathlib.Core.List.{List}
 use native.Mathlib.Omega.{arith}
@@ -8,12 +8,12 @@ use lib.Dec.{eqb}
 use lib.ListN.{get_or, take}
 use lib.Seq.{get_or-take}
 use borrow.Author.Tests.{eq-eqb, ne_eqb}
-use Rattle.surface.specs.Edit.{Hinge, hinge}
+use Rattle.surface.specs.Edit.{Hinge}
 use Rattle.history.specs.Local.{else}
-use Rattle.history.specs.History.{Pair, label, covered}
+use Rattle.history.specs.History.{covered}
 use Rattle.surface.specs.Flat.{held}
 use Rattle.history.specs.Flat.{pair_of}
-use Rattle.verdicts.specs.Found.{hinge_of, Places, Hung}
+use Rattle.verdicts.specs.Found.{Hung}
 use Rattle.verdicts.specs.declared.Found.{Found}
 use Rattle.history.specs.Local.{flip?, collapse?, flip_word, collapse_word}
 

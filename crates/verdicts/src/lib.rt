@@ -1,4 +1,6 @@
 // The side that an entry names: its two triangles, the tests around it that give the entry's verdict word, and the words of its record.
+#![tactic(auto)]
+
 ghost use Rattle.std.specs.Prelude.{◌≡◌, ◌∷◌, [], true, false, ◌&&◌, ◌||◌, not, cond, ℕ, ◌+◌, ◌*◌, ◌<◌, ◌≤◌, length, get_or, drop, take, eqb};
 ghost use Rattle.surface.specs.Triangle.{runs, names};
 ghost use Rattle.surface.specs.Edit.{has, first, opposite, start_of, hinge};

@@ -1,4 +1,6 @@
 // The exact volume of a surface on whole units.
+#![tactic(auto)]
+
 ghost use Rattle.std.specs.Prelude.{◌≡◌, ◌/◌, ◌<◌, length};
 ghost use Rattle.surface.specs.Triangle.{tri};
 ghost use Rattle.units.specs.Units.{AllOnUnits, units_at};

@@ -1,4 +1,6 @@
 // Words and corners read and written one at a time: each asks only that its index is there.
+#![tactic(auto)]
+
 ghost use Rattle.std.specs.Prelude.{◌≡◌, ◌%◌, ◌<◌, ◌≤◌, length, set};
 ghost use Rattle.halfedges.specs.Place.{at, nx, pv};
 

@@ -3,6 +3,7 @@
 //
 // A place past the end of the list is counted and not written. So the parts need not ask whether there
 // is room: `settled` sees at the end how long the text is.
+#![tactic(auto)]
 
 ghost use Rattle.std.specs.Prelude.{◌≡◌, not, [], ◌∷◌, ◌+◌, ◌*◌, ◌≤◌, ◌<◌, ◌^◌, length, nat_abs};
 ghost use Rattle.std.specs.Int.Signed.{non_neg};

@@ -19,18 +19,17 @@ const CONVERT: Named = ("convert_sheet", "LANOVISHEL_CONVERT_SHEET");
 /// The two programs: one is built after the other.
 static PROGRAMS: LazyLock<[PathBuf; 2]> = LazyLock::new(|| [CHECK, CONVERT].map(program));
 
-/// The program that the variable names, or else proved and built by `rt`.
+/// The program that the variable names, or else proved and built by `tools/build`.
 fn program((name, variable): Named) -> PathBuf {
     if let Some(ready) = env::var_os(variable) {
         return ready.into();
     }
     let project = Path::new(env!("CARGO_MANIFEST_DIR")).join("../..");
-    let proved = Command::new("rt")
-        .args(["check", name])
-        .current_dir(&project)
+    let proved = Command::new(project.join("tools/build"))
+        .arg(name)
         .output()
-        .expect("the Rattle kit's `rt` is on the path");
-    let said = String::from_utf8_lossy(&proved.stdout);
+        .expect("tools/build is in the project");
+    let said = String::from_utf8_lossy(&proved.stderr);
     assert!(
         proved.status.success(),
         "{}",

@@ -14,108 +14,108 @@ use Rattle.checking.proofs.step.Statement.{statement}
 use Rattle.checking.proofs.step.Tie as tie
 
 -- the corners are below the number of points
-inside : (c : tie.Else1) → Within (length c.before.before.before.args.points.now / 3) (tri_of c.before.before.before.args.t4)
-inside c = within _ _ (sym c.before.beyond.ensures ∙ c.if1.false)
+inside : (c : tie.Else-beyond) → Within (length c.before.before.before.args.points.now / 3) (tri_of c.before.before.before.args.t)
+inside c = within _ _ (sym c.before.beyond.ensures ∙ c.if-beyond.false)
 
 -- a value at the three places is the value at the three corners
-abbrev start : tie.After-place3 → tie.Start
+abbrev start : tie.After-place-c → tie.Start
 start c = c.before.before.before.before.before.before.before.before.before
 
-at-corners : {A : Type 0} (f : Point → Point → Point → A) (c : tie.After-place3)
-    → f c.before.before.before.before.place.result c.before.before.place2.result c.place3.result
-    ≡ f (placed (start c).args.points.now (tri_of (start c).args.t4).a) (placed (start c).args.points.now (tri_of (start c).args.t4).b) (placed (start c).args.points.now (tri_of (start c).args.t4).c)
+at-corners : {A : Type 0} (f : Point → Point → Point → A) (c : tie.After-place-c)
+    → f c.before.before.before.before.place-a.result c.before.before.place-b.result c.place-c.result
+    ≡ f (placed (start c).args.points.now (tri_of (start c).args.t).a) (placed (start c).args.points.now (tri_of (start c).args.t).b) (placed (start c).args.points.now (tri_of (start c).args.t).c)
 at-corners f c =
     let s = start c in
     let ps = s.args.points.now in
-    let o : s.args.origin ≡ point_at ps 0 = s.pre.1 (let h = (inside c.before.before.before.before.before.before).a in omega arith) in
-    let p = c.before.before.before.before.place.ensures ∙ ap₂ difference (ap (point_at ps) c.before.before.before.before.before.wide.ensures) o in
-    let q = c.before.before.place2.ensures ∙ ap₂ difference (ap (point_at ps) c.before.before.before.wide2.ensures) o in
-    let r = c.place3.ensures ∙ ap₂ difference (ap (point_at ps) c.before.wide3.ensures) o in
+    let o : s.args.origin ≡ point_at ps 0 = s.requires.1 (let h = (inside c.before.before.before.before.before.before).a in omega arith) in
+    let p = c.before.before.before.before.place-a.ensures ∙ ap₂ difference (ap (point_at ps) c.before.before.before.before.before.wide.ensures) o in
+    let q = c.before.before.place-b.ensures ∙ ap₂ difference (ap (point_at ps) c.before.before.before.wide-2.ensures) o in
+    let r = c.place-c.ensures ∙ ap₂ difference (ap (point_at ps) c.before.wide-3.ensures) o in
     λ i. f (p i) (q i) (r i)
 
 -- what the quality lowers
-least-is : (c : tie.After-least) → c.least.result ≡ least_with (start c.before).args.minimum (quality_at (start c.before).args.points.now (tri_of (start c.before).args.t4))
+least-is : (c : tie.After-least) → c.least.result ≡ least_with (start c.before).args.minimum (quality_at (start c.before).args.points.now (tri_of (start c.before).args.t))
 least-is c = c.least.ensures ∙ ap (least_with (start c.before).args.minimum) (at-corners quality c.before)
 
 beyond-requires : tie.Need-beyond-requires
 beyond-requires c κs = search rules
 
-returns : tie.Need-returns
-returns c = step_out _ _ _ _ (sym c.before.beyond.ensures ∙ c.if1.true)
+returns-then-beyond : tie.Need-returns-then-beyond
+returns-then-beyond c = step_out _ _ _ _ (sym c.before.beyond.ensures ∙ c.if-beyond.true)
 
-array-read-wide : tie.Need-array-read-wide
-array-read-wide c = search rules
+bounds-t-0 : tie.Need-bounds-t-0
+bounds-t-0 c = search rules
 
 wide-requires : tie.Need-wide-requires
 wide-requires c κs = search rules
 
-place-requires : tie.Need-place-requires
-place-requires c κs = let h = (inside c.before).a in omega arith
+place-a-requires : tie.Need-place-a-requires
+place-a-requires c κs = let h = (inside c.before).a in omega arith
 
-array-read-wide-2 : tie.Need-array-read-wide-2
-array-read-wide-2 c = search rules
+bounds-t-1 : tie.Need-bounds-t-1
+bounds-t-1 c = search rules
 
 wide-requires-2 : tie.Need-wide-requires-2
 wide-requires-2 c κs = search rules
 
-place-requires-2 : tie.Need-place-requires-2
-place-requires-2 c κs = let h = (inside c.before.before.before).b in omega arith
+place-b-requires : tie.Need-place-b-requires
+place-b-requires c κs = let h = (inside c.before.before.before).b in omega arith
 
-array-read-wide-3 : tie.Need-array-read-wide-3
-array-read-wide-3 c = search rules
+bounds-t-2 : tie.Need-bounds-t-2
+bounds-t-2 c = search rules
 
 wide-requires-3 : tie.Need-wide-requires-3
 wide-requires-3 c κs = search rules
 
-place-requires-3 : tie.Need-place-requires-3
-place-requires-3 c κs = let h = (inside c.before.before.before.before.before).c in omega arith
+place-c-requires : tie.Need-place-c-requires
+place-c-requires c κs = let h = (inside c.before.before.before.before.before).c in omega arith
 
 least-requires : tie.Need-least-requires
 least-requires c κs = search rules
 
-enum-known-q : tie.Need-enum-known-q
-enum-known-q c = search rules
+enum_known-q : tie.Need-enum_known-q
+enum_known-q c = search rules
 
 share-requires : tie.Need-share-requires
 share-requires c κs = search rules
 
-enum_told : tie.Need-enum-told
-enum_told c = search rules
+enum_told-1 : tie.Need-enum_told-1
+enum_told-1 c = search rules
 
-returns-2 : tie.Need-returns-2
-returns-2 c =
-    let l = c.before.before.before.before in
-    let e = l.before.before.before.before.before.before.before in
-    let s = start l.before in
-    step_kept s.args.points.now s.args.minimum s.args.volume (tri_of s.args.t4)
-    (sym e.before.beyond.ensures ∙ e.if1.false) (least-is l) _ _ c.before.before.q.given.1 (c.share.ensures ∙ at-corners wedge l.before)
-
-returns-3 : tie.Need-returns-3
-returns-3 c =
+returns-in-Kept : tie.Need-returns-in-Kept
+returns-in-Kept c =
     let l = c.before.before in
     let e = l.before.before.before.before.before.before.before in
     let s = start l.before in
-    step_flat s.args.points.now s.args.minimum s.args.volume (tri_of s.args.t4)
-    (sym e.before.beyond.ensures ∙ e.if1.false) (least-is l) c.enum_told.given.1
+    step_kept s.args.points.now s.args.minimum s.args.volume (tri_of s.args.t)
+    (sym e.before.beyond.ensures ∙ e.if-beyond.false) (least-is l) _ _ c.in-Kept.is (c.share.ensures ∙ at-corners wedge l.before)
+
+returns-in-Degenerate : tie.Need-returns-in-Degenerate
+returns-in-Degenerate c =
+    let l = c.before in
+    let e = l.before.before.before.before.before.before.before in
+    let s = start l.before in
+    step_flat s.args.points.now s.args.minimum s.args.volume (tri_of s.args.t)
+    (sym e.before.beyond.ensures ∙ e.if-beyond.false) (least-is l) c.in-Degenerate.is
 
 pub step_spec : {M : Type 1} → statement M
 step_spec =
     tie.close
     (tie.spec
     beyond-requires
-    returns
-    array-read-wide
+    returns-then-beyond
+    bounds-t-0
     wide-requires
-    place-requires
-    array-read-wide-2
+    place-a-requires
+    bounds-t-1
     wide-requires-2
-    place-requires-2
-    array-read-wide-3
+    place-b-requires
+    bounds-t-2
     wide-requires-3
-    place-requires-3
+    place-c-requires
     least-requires
-    enum-known-q
+    enum_known-q
     share-requires
-    enum_told
-    returns-2
-    returns-3)
+    enum_told-1
+    returns-in-Kept
+    returns-in-Degenerate)

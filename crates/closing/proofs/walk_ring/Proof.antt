@@ -7,77 +7,77 @@ use Rattle.halfedges.proofs.Chains.{hop_below, trip-none, trip_stop, trip_home, 
 use Rattle.closing.proofs.walk_ring.Statement.{statement}
 use Rattle.closing.proofs.walk_ring.Tie as tie
 
-abbrev invariant-loop : tie.invariant-loop
+abbrev invariant-loop : tie.invariant-loop-left
 invariant-loop points v work first count x₀ left₀ x left = (x < points) × (trip (hop_to points v work) first count first ≡ trip (hop_to points v work) first left x)
 
-abbrev decreases-loop : tie.decreases-loop
+abbrev decreases-loop : tie.decreases-loop-left
 decreases-loop points v work first count x₀ left₀ x left = left
 
-abbrev start : tie.At-loop invariant-loop decreases-loop → tie.Start invariant-loop decreases-loop
+abbrev start : tie.At-loop-left invariant-loop decreases-loop → tie.Start invariant-loop decreases-loop
 start c = c.before.before
 
-abbrev hops : tie.At-loop invariant-loop decreases-loop → ℕ → ℕ
+abbrev hops : tie.At-loop-left invariant-loop decreases-loop → ℕ → ℕ
 hops c = let a = (start c).args in hop_to a.points a.v a.work.now
 
-m-is : (c : tie.Else1 invariant-loop decreases-loop) → hops c.before.before.before c.before.before.before.loop.x ≡ suc (c.before.hop.result - 1)
-m-is c = sym c.before.hop.ensures ∙ pos c.before.hop.result c.if1.false
+m-is : (c : tie.Else-m-eq0 invariant-loop decreases-loop) → hops c.before.before.before c.before.before.before.loop-left.x ≡ suc (c.before.hop-m.result - 1)
+m-is c = sym c.before.hop-m.ensures ∙ pos c.before.hop-m.result c.if-m-eq0.false
   where
     pos : (m : ℕ) → (m ≡ 0 → ⊥) → m ≡ suc (m - 1)
     pos m h = omega (arith, h)
 
-left_is : (c : tie.Else1 invariant-loop decreases-loop) → c.before.before.before.loop.left ≡ suc (c.before.before.before.loop.left - 1)
-left_is c = omega (arith, c.before.before.loop-test.true)
+left_is : (c : tie.Else-m-eq0 invariant-loop decreases-loop) → c.before.before.before.loop-left.left ≡ suc (c.before.before.before.loop-left.left - 1)
+left_is c = omega (arith, c.before.before.loop-left-test.true)
 
-loop-holds : tie.Need-loop-init invariant-loop decreases-loop
-loop-holds c = (c.before.requires.1.1, refl)
+loop-left-init : tie.Need-loop-left-init invariant-loop decreases-loop
+loop-left-init c = (c.before.requires.1.1, refl)
 
-hop-requires : tie.Need-hop-requires invariant-loop decreases-loop
-hop-requires c κs = let s = start c.before in (s.pre.0, (s.pre.1.0, c.before.loop.invariant.0))
+hop-m-requires : tie.Need-hop-m-requires invariant-loop decreases-loop
+hop-m-requires c κs = let s = start c.before in (s.requires.0, (s.requires.1.0, c.before.loop-left.invariant.0))
+
+returns-then-m-eq0 : tie.Need-returns-then-m-eq0 invariant-loop decreases-loop
+returns-then-m-eq0 c =
+    let l = c.before.before.before in
+    sym (l.loop-left.invariant.1 ∙ trip_stop (hops l) (start l).args.first l.loop-left.left l.loop-left.x (sym c.before.hop-m.ensures ∙ c.if-m-eq0.true))
+
+overflow_sub-x : tie.Need-overflow_sub-x invariant-loop decreases-loop
+overflow_sub-x c = omega (arith, c.if-m-eq0.false)
+
+overflow_sub-left : tie.Need-overflow_sub-left invariant-loop decreases-loop
+overflow_sub-left c = omega arith
+
+returns-then-x-first : tie.Need-returns-then-x-first invariant-loop decreases-loop
+returns-then-x-first c =
+    let l = c.before.before.before.before in
+    sym (l.loop-left.invariant.1 ∙ trip_home (hops l) (start l).args.first l.loop-left.left (l.loop-left.left - 1) l.loop-left.x (c.before.before.hop-m.result - 1) (left_is c.before) (m-is c.before) c.if-x-first.true)
+
+loop-left-smaller : tie.Need-loop-left-smaller invariant-loop decreases-loop
+loop-left-smaller c = omega arith
+
+loop-left-preserved : tie.Need-loop-left-preserved invariant-loop decreases-loop
+loop-left-preserved c =
+    let l = c.before.before.before.before in
+    let s = start l in (
+      hop_below s.args.points s.args.v s.args.work.now l.loop-left.x (c.before.before.hop-m.result - 1) s.requires.0 l.loop-left.invariant.0 (m-is c.before),
+      l.loop-left.invariant.1 ∙ trip-on (hops l) s.args.first l.loop-left.left (l.loop-left.left - 1) l.loop-left.x (c.before.before.hop-m.result - 1) (left_is c.before) (m-is c.before) c.if-x-first.false,
+    )
 
 returns : tie.Need-returns invariant-loop decreases-loop
 returns c =
-    let l = c.before.before.before in
-    sym (l.loop.invariant.1 ∙ trip_stop (hops l) (start l).args.first l.loop.left l.loop.x (sym c.before.hop.ensures ∙ c.if1.true))
-
-sub-x : tie.Need-overflow-sub-x invariant-loop decreases-loop
-sub-x c = omega (arith, c.if1.false)
-
-sub-left : tie.Need-overflow-sub-left invariant-loop decreases-loop
-sub-left c = omega arith
-
-returns-2 : tie.Need-returns-2 invariant-loop decreases-loop
-returns-2 c =
-    let l = c.before.before.before.before in
-    sym (l.loop.invariant.1 ∙ trip_home (hops l) (start l).args.first l.loop.left (l.loop.left - 1) l.loop.x (c.before.before.hop.result - 1) (left_is c.before) (m-is c.before) c.if2.true)
-
-loop-less : tie.Need-loop-smaller invariant-loop decreases-loop
-loop-less c = omega arith
-
-loop-again : tie.Need-loop-preserved invariant-loop decreases-loop
-loop-again c =
-    let l = c.before.before.before.before in
-    let s = start l in (
-      hop_below s.args.points s.args.v s.args.work.now l.loop.x (c.before.before.hop.result - 1) s.pre.0 l.loop.invariant.0 (m-is c.before),
-      l.loop.invariant.1 ∙ trip-on (hops l) s.args.first l.loop.left (l.loop.left - 1) l.loop.x (c.before.before.hop.result - 1) (left_is c.before) (m-is c.before) c.if2.false,
-    )
-
-returns-3 : tie.Need-returns-3 invariant-loop decreases-loop
-returns-3 c =
     let l = c.before in
-    sym (l.loop.invariant.1 ∙ trip-none (hops l) (start l).args.first l.loop.left l.loop.x (omega arith))
+    sym (l.loop-left.invariant.1 ∙ trip-none (hops l) (start l).args.first l.loop-left.left l.loop-left.x (omega arith))
 
-pub walk-ring-spec : {M : Type 1} → statement M
-walk-ring-spec =
+pub walk_ring_spec : {M : Type 1} → statement M
+walk_ring_spec =
     tie.close
     (tie.spec
     invariant-loop
     decreases-loop
-    loop-holds
-    hop-requires
-    returns
-    sub-x
-    sub-left
-    returns-2
-    loop-less
-    loop-again
-    returns-3)
+    loop-left-init
+    hop-m-requires
+    returns-then-m-eq0
+    overflow_sub-x
+    overflow_sub-left
+    returns-then-x-first
+    loop-left-smaller
+    loop-left-preserved
+    returns)

@@ -7,116 +7,116 @@ use borrow.Author.Rules.{rules}
 use Rattle.lattice.proofs.fill.Statement.{statement}
 use Rattle.lattice.proofs.fill.Tie as tie
 
-abbrev filled : tie.After-all-finite → tie.After-fill-nodes
-filled c = c.before.before.before.before.before.before
+abbrev filled : tie.After-all_finite → tie.After-fill_nodes
+filled c = c.before.before.before.before.before
 
-abbrev start : tie.After-fill-nodes → tie.Start
+abbrev start : tie.After-fill_nodes → tie.Start
 start c = c.before.before.before.before.before.before.before.before
 
-abbrev field : tie.After-fill-nodes → SampledField
+abbrev field : tie.After-fill_nodes → SampledField
 field c = let a = (start c).args in told a.coefficients.now a.powers.now a.levels.now a.bounds.now a.cells
 
-abbrev settled : tie.After-slice-known7 → tie.After-set-onto-levels
-settled c = c.before.before.before.before.before.before.before
+abbrev settled : tie.After-slice_known-7-1 → tie.After-set_onto_levels
+settled c = c.before.before.before.before.before.before
 
-abbrev tested : tie.After-set-onto-levels → tie.Else1
+abbrev tested : tie.After-set_onto_levels → tie.Else-not-all_finite
 tested c = c.before.before.before.before
 
-fill-nodes-requires : tie.Need-fill-nodes-requires
-fill-nodes-requires c κs = search rules
+fill_nodes-requires : tie.Need-fill_nodes-requires
+fill_nodes-requires c κs = search rules
 
-all-finite-requires : tie.Need-all-finite-requires
-all-finite-requires c κs = search rules
+all_finite-requires : tie.Need-all_finite-requires
+all_finite-requires c κs = search rules
 
-same_length : tie.Need-same-length
-same_length c = search rules
+shape_of-grid-then-not-all_finite : tie.Need-shape_of-grid-then-not-all_finite
+shape_of-grid-then-not-all_finite c = search rules
 
-same-length-2 : tie.Need-same-length-2
-same-length-2 c = search rules
+shape_of-values-then-not-all_finite : tie.Need-shape_of-values-then-not-all_finite
+shape_of-values-then-not-all_finite c = search rules
 
-returns : tie.Need-returns
-returns c =
+returns-then-not-all_finite : tie.Need-returns-then-not-all_finite
+returns-then-not-all_finite c =
     let n = filled c.before in
-    fills_36 (field n) (start n).pre n.fill-nodes.ensures _ c.before.all-finite.ensures n.fill-nodes.kept.1.1.1.1.1.0 c.if1.true
+    fills_36 (field n) (start n).requires n.fill_nodes.ensures _ c.before.all_finite.ensures n.fill_nodes.auto.values c.if-not-all_finite.true
 
-element-copy-out-lower : tie.Need-element-copy-out-lower
-element-copy-out-lower c = search rules
+bounds-levels-0 : tie.Need-bounds-levels-0
+bounds-levels-0 c = search rules
 
-element-copy-out-upper : tie.Need-element-copy-out-upper
-element-copy-out-upper c = search rules
+bounds-levels-1 : tie.Need-bounds-levels-1
+bounds-levels-1 c = search rules
 
-set-onto-levels-requires : tie.Need-set-onto-levels-requires
-set-onto-levels-requires c κs = search rules
+set_onto_levels-requires : tie.Need-set_onto_levels-requires
+set_onto_levels-requires c κs = search rules
 
-add-note-edges : tie.Need-overflow-add-note-edges
-add-note-edges c = search rules
+overflow_add-cells : tie.Need-overflow_add-cells
+overflow_add-cells c = search rules
 
-note-edges-requires : tie.Need-note-edges-requires
-note-edges-requires c κs = search rules
+note_edges-found-requires : tie.Need-note_edges-found-requires
+note_edges-found-requires c κs = search rules
 
-mul-if2 : tie.Need-overflow-mul-if2
-mul-if2 c =
+overflow_mul-found : tie.Need-overflow_mul-found
+overflow_mul-found c =
     let s = settled (c) in
     let t = tested s in
     let n = filled t.before in
-    let same = s.set-onto-levels.kept.0 ∙ n.fill-nodes.kept.1.1.1.1.1.0 in
-    let few = few-found (field n) (start n).pre n.fill-nodes.ensures _ t.before.all-finite.ensures t.if1.left s.set-onto-levels.ensures same c.before.before.note-edges.ensures in
+    let same = s.set_onto_levels.auto.values ∙ n.fill_nodes.auto.values in
+    let few = few-found (field n) (start n).requires n.fill_nodes.ensures _ t.before.all_finite.ensures t.if-not-all_finite.false s.set_onto_levels.ensures same c.before.before.note_edges-found.ensures in
     omega arith
 
-same-length-3 : tie.Need-same-length-3
-same-length-3 c = search rules
+shape_of-grid-then-edges-found : tie.Need-shape_of-grid-then-edges-found
+shape_of-grid-then-edges-found c = search rules
 
-same-length-4 : tie.Need-same-length-4
-same-length-4 c = search rules
+shape_of-values-then-edges-found : tie.Need-shape_of-values-then-edges-found
+shape_of-values-then-edges-found c = search rules
 
-same-length-5 : tie.Need-same-length-5
-same-length-5 c = search rules
+shape_of-edges-then-edges-found : tie.Need-shape_of-edges-then-edges-found
+shape_of-edges-then-edges-found c = search rules
 
-returns-2 : tie.Need-returns-2
-returns-2 c =
+returns-then-edges-found : tie.Need-returns-then-edges-found
+returns-then-edges-found c =
     let s = settled c.before in
     let t = tested s in
     let n = filled t.before in
-    let same = s.set-onto-levels.kept.0 ∙ n.fill-nodes.kept.1.1.1.1.1.0 in
-    fills_35 (field n) (start n).pre n.fill-nodes.ensures _ t.before.all-finite.ensures t.if1.left s.set-onto-levels.ensures same c.before.before.before.note-edges.ensures c.if2.true
+    let same = s.set_onto_levels.auto.values ∙ n.fill_nodes.auto.values in
+    fills_35 (field n) (start n).requires n.fill_nodes.ensures _ t.before.all_finite.ensures t.if-not-all_finite.false s.set_onto_levels.ensures same c.before.before.before.note_edges-found.ensures c.if-edges-found.true
 
-same-length-6 : tie.Need-same-length-6
-same-length-6 c = search rules
+shape_of-grid : tie.Need-shape_of-grid
+shape_of-grid c = search rules
 
-same-length-7 : tie.Need-same-length-7
-same-length-7 c = search rules
+shape_of-values : tie.Need-shape_of-values
+shape_of-values c = search rules
 
-same-length-8 : tie.Need-same-length-8
-same-length-8 c = search rules
+shape_of-edges : tie.Need-shape_of-edges
+shape_of-edges c = search rules
 
-returns-3 : tie.Need-returns-3
-returns-3 c =
+returns : tie.Need-returns
+returns c =
     let s = settled c.before in
     let t = tested s in
     let n = filled t.before in
-    let same = s.set-onto-levels.kept.0 ∙ n.fill-nodes.kept.1.1.1.1.1.0 in
-    fills_all (field n) (start n).pre n.fill-nodes.ensures _ t.before.all-finite.ensures t.if1.left s.set-onto-levels.ensures same c.before.before.before.note-edges.ensures c.if2.false
+    let same = s.set_onto_levels.auto.values ∙ n.fill_nodes.auto.values in
+    fills_all (field n) (start n).requires n.fill_nodes.ensures _ t.before.all_finite.ensures t.if-not-all_finite.false s.set_onto_levels.ensures same c.before.before.before.note_edges-found.ensures c.if-edges-found.false
 
 pub fill_spec : {M : Type 1} → statement M
 fill_spec =
     tie.close
     (tie.spec
-    fill-nodes-requires
-    all-finite-requires
-    same_length
-    same-length-2
-    returns
-    element-copy-out-lower
-    element-copy-out-upper
-    set-onto-levels-requires
-    add-note-edges
-    note-edges-requires
-    mul-if2
-    same-length-3
-    same-length-4
-    same-length-5
-    returns-2
-    same-length-6
-    same-length-7
-    same-length-8
-    returns-3)
+    fill_nodes-requires
+    all_finite-requires
+    shape_of-grid-then-not-all_finite
+    shape_of-values-then-not-all_finite
+    returns-then-not-all_finite
+    bounds-levels-0
+    bounds-levels-1
+    set_onto_levels-requires
+    overflow_add-cells
+    note_edges-found-requires
+    overflow_mul-found
+    shape_of-grid-then-edges-found
+    shape_of-values-then-edges-found
+    shape_of-edges-then-edges-found
+    returns-then-edges-found
+    shape_of-grid
+    shape_of-values
+    shape_of-edges
+    returns)

@@ -20,11 +20,11 @@ abbrev start : tie.After-admitted → tie.Start
 start a = (emptied a).before.before.before.before.before.before.before
 
 -- editing's questions are passed
-abbrev admitted : tie.After-enum-told → tie.After-admitted
-admitted e = e.before.before.before.before
+abbrev admitted : tie.In_default → tie.After-admitted
+admitted e = e.before.before.before
 
 -- and question 40
-abbrev told : tie.Else1 → tie.After-enum-told
+abbrev told : tie.Else-not-layered → tie.In_default
 told e = e.before.before
 
 -- the height as it is read back from its bits
@@ -41,98 +41,98 @@ clear-requires c κs = search rules
 admitted-requires : tie.Need-admitted-requires
 admitted-requires c κs = search rules
 
-enum-known-why : tie.Need-enum-known-why
-enum-known-why c = search rules
+enum_known-why : tie.Need-enum_known-why
+enum_known-why c = search rules
 
-same_length : tie.Need-same-length
-same_length c = search rules
+shape_of-work-in-Refused : tie.Need-shape_of-work-in-Refused
+shape_of-work-in-Refused c = search rules
 
-same-length-2 : tie.Need-same-length-2
-same-length-2 c = search rules
+shape_of-outline-in-Refused : tie.Need-shape_of-outline-in-Refused
+shape_of-outline-in-Refused c = search rules
 
-returns : tie.Need-returns
-returns c =
-    let a = c.before.before.before.before.before in
+returns-in-Refused : tie.Need-returns-in-Refused
+returns-in-Refused c =
+    let a = c.before.before.before in
     let s = start a in
-    at_first s.args.points.now s.args.corners.now s.args.labels.now s.args.work.now s.args.height a.admitted.new.1.1.1.0 _ a.admitted.ensures s.args.outline.now (emptied a).clear.new.0 (emptied a).clear.ensures c.before.why.given.1
+    at_first s.args.points.now s.args.corners.now s.args.labels.now s.args.work.now s.args.height a.admitted.new.work _ a.admitted.ensures s.args.outline.now (emptied a).clear.new.work (emptied a).clear.ensures c.before.in-Refused.is
 
-enum_told : tie.Need-enum-told
-enum_told c = search rules
+enum_told-1 : tie.Need-enum_told-1
+enum_told-1 c = search rules
 
 layered-requires : tie.Need-layered-requires
 layered-requires c κs = search rules
 
-same-length-3 : tie.Need-same-length-3
-same-length-3 c = search rules
+shape_of-work-then-not-layered : tie.Need-shape_of-work-then-not-layered
+shape_of-work-then-not-layered c = search rules
 
-same-length-4 : tie.Need-same-length-4
-same-length-4 c = search rules
+shape_of-outline-then-not-layered : tie.Need-shape_of-outline-then-not-layered
+shape_of-outline-then-not-layered c = search rules
 
-returns-2 : tie.Need-returns-2
-returns-2 c =
+returns-then-not-layered : tie.Need-returns-then-not-layered
+returns-then-not-layered c =
     let t = c.before.before in
     let a = admitted t in
     let s = start a in
-    at_forty s.args.points.now s.args.corners.now s.args.labels.now s.args.work.now s.args.height a.admitted.last.1.1.1.0 _ a.admitted.ensures s.args.outline.now (emptied a).clear.last.0 (emptied a).clear.ensures t.enum_told.given.1
-    (answered c.before ∙ not_true _ c.if1.true)
+    at_forty s.args.points.now s.args.corners.now s.args.labels.now s.args.work.now s.args.height a.admitted.new.1.1.1.0 _ a.admitted.ensures s.args.outline.now (emptied a).clear.new.0 (emptied a).clear.ensures t.in_default.is
+    (answered c.before ∙ c.if-not-layered.true)
 
-trace-requires : tie.Need-trace-requires
-trace-requires c κs =
+trace-found-requires : tie.Need-trace-found-requires
+trace-found-requires c κs =
     let e = c.before.before in
     let t = told e in
     let a = admitted t in
     let s = start a in
-    subst (λ (z : ℤ). Crossable s.args.points.now s.args.corners.now a.admitted.last.1.1.1.0 z) (sym (read s))
-    (crossable s.args.points.now s.args.corners.now s.args.labels.now s.args.work.now s.args.height a.admitted.last.1.1.1.0 _ a.admitted.ensures t.enum_told.given.1
-    (answered e.before ∙ not-false _ e.if1.false) a.admitted.kept.1.1.1.0)
+    subst (λ (z : ℤ). Crossable s.args.points.now s.args.corners.now a.admitted.new.1.1.1.0 z) (sym (read s))
+    (crossable s.args.points.now s.args.corners.now s.args.labels.now s.args.work.now s.args.height a.admitted.new.1.1.1.0 _ a.admitted.ensures t.in_default.is
+    (answered e.before ∙ e.if-not-layered.false) a.admitted.auto.work)
 
-clear-needed-requires : tie.Need-clear-needed-requires
-clear-needed-requires c κs =
+clear_needed-requires : tie.Need-clear_needed-requires
+clear_needed-requires c κs =
     let r = c.before.before.before.before.before in
     let e = r.before.before.before in
     let t = told e in
     let a = admitted t in
     let s = start a in
-    let l = (crossable s.args.points.now s.args.corners.now s.args.labels.now s.args.work.now s.args.height a.admitted.last.1.1.1.0 _ a.admitted.ensures t.enum_told.given.1
-    (answered e.before ∙ not-false _ e.if1.false) a.admitted.kept.1.1.1.0).lent in
-    (l.few, omega (arith, l.points), omega (arith, l.room, r.trace.auto.1.1.0))
+    let l = (crossable s.args.points.now s.args.corners.now s.args.labels.now s.args.work.now s.args.height a.admitted.new.1.1.1.0 _ a.admitted.ensures t.in_default.is
+    (answered e.before ∙ e.if-not-layered.false) a.admitted.auto.work).lent in
+    (l.few, omega (arith, l.points), omega (arith, l.room, r.trace-found.auto.work))
 
-same-length-5 : tie.Need-same-length-5
-same-length-5 c = search rules
+shape_of-work : tie.Need-shape_of-work
+shape_of-work c = search rules
 
-same-length-6 : tie.Need-same-length-6
-same-length-6 c = search rules
+shape_of-outline : tie.Need-shape_of-outline
+shape_of-outline c = search rules
 
-returns-3 : tie.Need-returns-3
-returns-3 c =
+returns : tie.Need-returns
+returns c =
     let d = c.before.before in
     let r = d.before.before.before.before.before.before in
     let e = r.before.before.before in
     let t = told e in
     let a = admitted t in
     let s = start a in
-    at_end s.args.points.now s.args.corners.now s.args.labels.now s.args.work.now s.args.height a.admitted.last.1.1.1.0 _ a.admitted.ensures s.args.outline.now (emptied a).clear.last.0 (emptied a).clear.ensures t.enum_told.given.1
-    (answered e.before ∙ not-false _ e.if1.false)
-    r.trace.new.1.1.0 r.trace.new.1.1.1.1.0 r.trace.result
-    (subst (λ (z : ℤ). LayerTraced s.args.points.now s.args.corners.now a.admitted.last.1.1.1.0 r.trace.new.1.1.0 z (emptied a).clear.last.0 r.trace.new.1.1.1.1.0 r.trace.result) (read s) r.trace.ensures) _ d.clear-needed.ensures
+    at_end s.args.points.now s.args.corners.now s.args.labels.now s.args.work.now s.args.height a.admitted.new.1.1.1.0 _ a.admitted.ensures s.args.outline.now (emptied a).clear.new.0 (emptied a).clear.ensures t.in_default.is
+    (answered e.before ∙ e.if-not-layered.false)
+    r.trace-found.new.work r.trace-found.new.outline r.trace-found.result
+    (subst (λ (z : ℤ). LayerTraced s.args.points.now s.args.corners.now a.admitted.new.1.1.1.0 r.trace-found.new.work z (emptied a).clear.new.0 r.trace-found.new.outline r.trace-found.result) (read s) r.trace-found.ensures) _ d.clear_needed.ensures
 
-pub outlines-spec : {M : Type 1} → statement M
-outlines-spec =
+pub outlines_spec : {M : Type 1} → statement M
+outlines_spec =
     tie.close
     (tie.spec
     clear-requires
     admitted-requires
-    enum-known-why
-    same_length
-    same-length-2
-    returns
-    enum_told
+    enum_known-why
+    shape_of-work-in-Refused
+    shape_of-outline-in-Refused
+    returns-in-Refused
+    enum_told-1
     layered-requires
-    same-length-3
-    same-length-4
-    returns-2
-    trace-requires
-    clear-needed-requires
-    same-length-5
-    same-length-6
-    returns-3)
+    shape_of-work-then-not-layered
+    shape_of-outline-then-not-layered
+    returns-then-not-layered
+    trace-found-requires
+    clear_needed-requires
+    shape_of-work
+    shape_of-outline
+    returns)

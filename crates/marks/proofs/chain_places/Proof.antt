@@ -13,78 +13,78 @@ use Rattle.marks.proofs.Turns.{zero-at, from-most, chain_turn'}
 use Rattle.marks.proofs.chain_places.Statement.{statement}
 use Rattle.marks.proofs.chain_places.Tie as tie
 
-abbrev invariant-loop : tie.invariant-loop
+abbrev invariant-loop : tie.invariant-loop-k
 invariant-loop corners points work₀ k₀ work k = (k ≤ length corners) × Free 0 (0 + points + length corners) work₀ work × Chaining corners points work k
 
-abbrev decreases-loop : tie.decreases-loop
+abbrev decreases-loop : tie.decreases-loop-k
 decreases-loop corners points work₀ k₀ work k = k
 
-abbrev start : tie.At-loop invariant-loop decreases-loop → tie.Start invariant-loop decreases-loop
+abbrev start : tie.At-loop-k invariant-loop decreases-loop → tie.Start invariant-loop decreases-loop
 start l = l.before.before.before.before.before.before.before
 
-abbrev Cs : tie.At-loop invariant-loop decreases-loop → List ℕ
+abbrev Cs : tie.At-loop-k invariant-loop decreases-loop → List ℕ
 Cs l = (start l).args.corners.now
 
-abbrev P : tie.At-loop invariant-loop decreases-loop → ℕ
+abbrev P : tie.At-loop-k invariant-loop decreases-loop → ℕ
 P l = (start l).args.points
 
-size : (l : tie.At-loop invariant-loop decreases-loop) → P l + length (Cs l) ≤ length l.loop.work
-size l = omega (arith, l.loop.invariant.1.len, (start l).requires.1, l.before.before.before.clear.auto.0)
+size : (l : tie.At-loop-k invariant-loop decreases-loop) → P l + length (Cs l) ≤ length l.loop-k.work
+size l = omega (arith, l.loop-k.invariant.1.len, (start l).requires.1, l.before.before.before.clear.auto.work)
 
-v_low : (c : tie.After-word invariant-loop decreases-loop) → c.word.result < P c.before.before
-v_low c = let l = c.before.before in omega (arith, c.word.ensures, (start l).requires.0.below (l.loop.k - 1) (omega (arith, l.loop.invariant.0, c.before.loop-test.true)))
+v_low : (c : tie.After-word-v invariant-loop decreases-loop) → c.word-v.result < P c.before.before
+v_low c = let l = c.before in omega (arith, c.word-v.ensures, (start l.before).requires.0.below (l.before.loop-k.k - 1) (omega (arith, l.before.loop-k.invariant.0, c.before.loop-k-test.true)))
 
 clear-requires : tie.Need-clear-requires invariant-loop decreases-loop
 clear-requires c κs = omega (arith, c.before.before.before.requires.1)
 
-loop-holds : tie.Need-loop-init invariant-loop decreases-loop
-loop-holds c = let d = c.before.before in let s = d.before.before.before.before in (omega arith, free_none d.clear.new.0, chain_first s.args.corners.now s.args.points d.clear.new.0 (λ v l. zero-at s.args.points v d.clear.new.0 (drop s.args.points s.args.work.now) d.clear.ensures l))
+loop-k-init : tie.Need-loop-k-init invariant-loop decreases-loop
+loop-k-init c = let d = c.before.before in let s = d.before.before.before.before in (omega arith, free_none d.clear.new.work, chain_first s.args.corners.now s.args.points d.clear.new.work (λ v l. zero-at s.args.points v d.clear.new.work (drop s.args.points s.args.work.now) d.clear.ensures l))
 
-sub-k : tie.Need-overflow-sub-k invariant-loop decreases-loop
-sub-k c = omega arith
+overflow_sub-k : tie.Need-overflow_sub-k invariant-loop decreases-loop
+overflow_sub-k c = omega arith
 
-word-requires : tie.Need-word-requires invariant-loop decreases-loop
-word-requires c κs = omega (arith, c.before.loop.invariant.0)
+word-v-requires : tie.Need-word-v-requires invariant-loop decreases-loop
+word-v-requires c κs = omega (arith, c.before.loop-k.invariant.0)
 
-word-requires-2 : tie.Need-word-requires-2 invariant-loop decreases-loop
-word-requires-2 c κs = let w = c.before in omega (arith, v_low w, size w.before.before)
+word-next-requires : tie.Need-word-next-requires invariant-loop decreases-loop
+word-next-requires c κs = let w = c in omega (arith, v_low w, size w.before.before)
 
-add-put : tie.Need-overflow-add-put invariant-loop decreases-loop
-add-put c = let w = c.before.before.before in omega (arith, v_low w, size w.before.before, (start w.before.before).pre.0.few, (start w.before.before).pre.0.points, w.before.before.loop.invariant.0)
+overflow_add-points : tie.Need-overflow_add-points invariant-loop decreases-loop
+overflow_add-points c = let w = c.before.before in omega (arith, v_low w, size w.before.before, (start w.before.before).requires.0.few, (start w.before.before).requires.0.points, w.before.before.loop-k.invariant.0)
 
 put-requires : tie.Need-put-requires invariant-loop decreases-loop
-put-requires c κs = let w = c.before.before.before in (omega (arith, size w.before.before, w.before.loop-test.true, w.before.before.loop.invariant.0), let l = w.before.before in omega (arith, c.before.word2.ensures, l.loop.invariant.2.heads w.word.result (v_low w), from-most (Cs l) w.word.result l.loop.k (length (Cs l) - l.loop.k), l.loop.invariant.0, (start l).requires.0.few))
+put-requires c κs = let w = c.before.before in (omega (arith, size w.before.before, w.before.loop-k-test.true, w.before.before.loop-k.invariant.0), let l = w.before in omega (arith, c.before.word-next.ensures, l.before.loop-k.invariant.2.heads w.word-v.result (v_low w), from-most (Cs l.before) w.word-v.result l.before.loop-k.k (length (Cs l.before) - l.before.loop-k.k), l.before.loop-k.invariant.0, (start l.before).requires.0.few))
 
-put-requires-2 : tie.Need-put-requires-2 invariant-loop decreases-loop
-put-requires-2 c κs = let a = c.before.before.before in let w = a.before.before.before.before in (omega (arith, v_low w, size w.before.before, a.put.auto.0), omega (arith, w.before.before.loop.invariant.0, (start w.before.before).pre.0.few))
+put-requires-in-loop-k : tie.Need-put-requires-in-loop-k invariant-loop decreases-loop
+put-requires-in-loop-k c κs = let a = c.before.before.before in let w = a.before.before.before in (omega (arith, v_low w, size w.before.before, a.put.auto.work), omega (arith, w.before.before.loop-k.invariant.0, (start w.before.before).requires.0.few))
 
-loop-less : tie.Need-loop-smaller invariant-loop decreases-loop
-loop-less c = let b = c.before.before in let a = b.before.before.before.before in let w = a.before.before.before.before in omega (arith, w.before.loop-test.true)
+loop-k-smaller : tie.Need-loop-k-smaller invariant-loop decreases-loop
+loop-k-smaller c = let b = c.before.before in let a = b.before.before.before.before in let w = a.before.before.before in omega (arith, w.before.loop-k-test.true)
 
-loop-again : tie.Need-loop-preserved invariant-loop decreases-loop
-loop-again c = let b = c.before.before in let a = b.before.before.before.before in let n = a.before.before in let w = n.before.before in let i = w.before in let l = i.before in (omega (arith, l.loop.invariant.0), free_put w.word.result l.loop.k (free_put (P l + (l.loop.k - 1)) n.word2.result l.loop.invariant.1 a.put.ensures (omega arith) (omega (arith, l.loop.invariant.0, i.loop-test.true))) b.put2.ensures (omega arith) (omega (arith, v_low w)), chain_turn' (Cs l) (P l) l.loop.work a.put.new.0 b.put2.new.0 (l.loop.k - 1) w.word.result l.loop.k n.word2.result (start l).requires.0 (size l) (omega (arith, l.loop.invariant.0, i.loop-test.true)) w.word.ensures (omega (arith, i.loop-test.true)) n.word2.ensures a.put.ensures b.put2.ensures l.loop.invariant.2)
+loop-k-preserved : tie.Need-loop-k-preserved invariant-loop decreases-loop
+loop-k-preserved c = let b = c.before.before in let a = b.before.before.before.before in let n = a.before.before in let w = n.before in let i = w.before in let l = i in (omega (arith, l.before.loop-k.invariant.0), free_put w.word-v.result l.before.loop-k.k (free_put (P l.before + (l.before.loop-k.k - 1)) n.word-next.result l.before.loop-k.invariant.1 a.put.ensures (omega arith) (omega (arith, l.before.loop-k.invariant.0, i.loop-k-test.true))) b.put-in-loop-k.ensures (omega arith) (omega (arith, v_low w)), chain_turn' (Cs l.before) (P l.before) l.before.loop-k.work a.put.new.work b.put-in-loop-k.new.work (l.before.loop-k.k - 1) w.word-v.result l.before.loop-k.k n.word-next.result (start l.before).requires.0 (size l.before) (omega (arith, l.before.loop-k.invariant.0, i.loop-k-test.true)) w.word-v.ensures (omega (arith, i.loop-k-test.true)) n.word-next.ensures a.put.ensures b.put-in-loop-k.ensures l.before.loop-k.invariant.2)
 
-same_length : tie.Need-same-length invariant-loop decreases-loop
-same_length c = let l = c.before in l.loop.invariant.1.len ∙ l.before.before.before.clear.auto.0
+shape_of-work : tie.Need-shape_of-work invariant-loop decreases-loop
+shape_of-work c = let l = c.before in l.loop-k.invariant.1.len ∙ l.before.before.before.clear.auto.work
 
 returns : tie.Need-returns invariant-loop decreases-loop
-returns c = let l = c.before in let z : l.loop.k ≡ 0 = omega (arith, c.loop-test.false) in record { chained = chain-last (Cs l) (P l) l.loop.work (subst (Chaining (Cs l) (P l) l.loop.work) z l.loop.invariant.2); rest = free_more (free_wider 0 (0 + P l + length (Cs l)) (omega arith) (omega arith) (free_cleared (P l) (start l).args.work.now l.before.before.before.clear.new.0 (omega (arith, (start l).requires.1)) l.before.before.before.clear.ensures)) l.loop.invariant.1 }
+returns c = let l = c.before in let z : l.loop-k.k ≡ 0 = omega (arith, c.loop-k-test.false) in record { chained = chain-last (Cs l) (P l) l.loop-k.work (subst (Chaining (Cs l) (P l) l.loop-k.work) z l.loop-k.invariant.2); rest = free_more (free_wider 0 (0 + P l + length (Cs l)) (omega arith) (omega arith) (free_cleared (P l) (start l).args.work.now l.before.before.before.clear.new.work (omega (arith, (start l).requires.1)) l.before.before.before.clear.ensures)) l.loop-k.invariant.1 }
 
-pub chain-places-spec : {M : Type 1} → statement M
-chain-places-spec =
+pub chain_places_spec : {M : Type 1} → statement M
+chain_places_spec =
     tie.close
     (tie.spec
     invariant-loop
     decreases-loop
     clear-requires
-    loop-holds
-    sub-k
-    word-requires
-    word-requires-2
-    add-put
+    loop-k-init
+    overflow_sub-k
+    word-v-requires
+    word-next-requires
+    overflow_add-points
     put-requires
-    put-requires-2
-    loop-less
-    loop-again
-    same_length
+    put-requires-in-loop-k
+    loop-k-smaller
+    loop-k-preserved
+    shape_of-work
     returns)

@@ -15,137 +15,137 @@ use Rattle.marks.proofs.Turns.{Acrossing, acrossing_first, acrossing_next, acros
 use Rattle.marks.proofs.mark_across_of.Statement.{statement}
 use Rattle.marks.proofs.mark_across_of.Tie as tie
 
-abbrev invariant-loop : tie.invariant-loop
+abbrev invariant-loop : tie.invariant-loop-q
 invariant-loop corners points chains stamps marks v work₀ q₀ work q = Acrossing corners points marks v q work₀ work
 
-abbrev decreases-loop : tie.decreases-loop
+abbrev decreases-loop : tie.decreases-loop-q
 decreases-loop corners points chains stamps marks v work₀ q₀ work q = length corners - spot (length corners) q
 
-abbrev start : tie.At-loop invariant-loop decreases-loop → tie.Start invariant-loop decreases-loop
-start l = l.before.before.before.before.before
+abbrev start : tie.At-loop-q invariant-loop decreases-loop → tie.Start invariant-loop decreases-loop
+start l = l.before.before.before.before
 
-abbrev Cs : tie.At-loop invariant-loop decreases-loop → List ℕ
+abbrev Cs : tie.At-loop-q invariant-loop decreases-loop → List ℕ
 Cs l = (start l).args.corners.now
 
-abbrev W₀ : tie.At-loop invariant-loop decreases-loop → List ℕ
+abbrev W₀ : tie.At-loop-q invariant-loop decreases-loop → List ℕ
 W₀ l = (start l).args.work.now
 
-handed : (l : tie.At-loop invariant-loop decreases-loop) → Marking (Cs l) (start l).args.points (W₀ l) (start l).args.chains (start l).args.stamps (start l).args.marks
+handed : (l : tie.At-loop-q invariant-loop decreases-loop) → Marking (Cs l) (start l).args.points (W₀ l) (start l).args.chains (start l).args.stamps (start l).args.marks
 handed l = (start l).requires.0
 
-k-is : (i : tie.In-loop invariant-loop decreases-loop) → i.before.loop.q ≡ suc (i.before.loop.q - 1)
-k-is i = omega (arith, i.loop-test.true)
+k-is : (i : tie.In-loop-q invariant-loop decreases-loop) → i.before.loop-q.q ≡ suc (i.before.loop-q.q - 1)
+k-is i = omega (arith, i.loop-q-test.true)
 
-k-low : (i : tie.In-loop invariant-loop decreases-loop) → i.before.loop.q - 1 < length (Cs i.before)
-k-low i = (i.before.loop.invariant.onward.names (i.before.loop.q - 1) (k-is i)).1
+k-low : (i : tie.In-loop-q invariant-loop decreases-loop) → i.before.loop-q.q - 1 < length (Cs i.before)
+k-low i = (i.before.loop-q.invariant.onward.names (i.before.loop-q.q - 1) (k-is i)).1
 
-abbrev In-of : tie.After-word3 invariant-loop decreases-loop → tie.In-loop invariant-loop decreases-loop
-In-of c = c.before.before.before.before.before.before
+abbrev In-of : tie.After-word invariant-loop decreases-loop → tie.In-loop-q invariant-loop decreases-loop
+In-of c = c.before.before.before.before
 
-t-low : (c : tie.After-word2 invariant-loop decreases-loop) → let l = c.before.before.before.before in c.word2.result < length (Cs l)
+t-low : (c : tie.After-word-t invariant-loop decreases-loop) → let l = c.before.before in c.word-t.result < length (Cs l.before)
 t-low c =
-    let i = c.before.before.before in
-    let l = i.before in
-    twin-low (Cs l) (start l).args.points (W₀ l) (start l).args.chains (start l).args.stamps (start l).args.marks (start l).args.v (handed l) (start l).requires.1.0 (start l).requires.1.1 l.loop.q (l.loop.q - 1) l.loop.work (k-is i) l.loop.invariant c.word2.result c.before.after.result c.before.after.ensures c.word2.ensures
+    let i = c.before.before in
+    let l = i in
+    twin-low (Cs l.before) (start l.before).args.points (W₀ l.before) (start l.before).args.chains (start l.before).args.stamps (start l.before).args.marks (start l.before).args.v (handed l.before) (start l.before).requires.1.0 (start l.before).requires.1.1 l.before.loop-q.q (l.before.loop-q.q - 1) l.before.loop-q.work (k-is i) l.before.loop-q.invariant c.word-t.result c.before.after.result c.before.after.ensures c.word-t.ensures
 
-d-low : (c : tie.After-behind invariant-loop decreases-loop) → let l = c.before.before.before.before.before in c.behind.result < (start l).args.points
-d-low c = let w = c.before in let l = w.before.before.before.before in omega (arith, c.behind.ensures, below_last (handed l).lists w.word2.result (t-low w))
+d-low : (c : tie.After-behind-d invariant-loop decreases-loop) → let l = c.before.before.before in c.behind-d.result < (start l.before).args.points
+d-low c = let w = c.before in let l = w.before.before in omega (arith, c.behind-d.ensures, below_last (handed l.before).lists w.word-t.result (t-low w))
 
-add-word : tie.Need-overflow-add-word invariant-loop decreases-loop
-add-word c = let s = c.before.before.before in omega (arith, s.requires.0.second, s.requires.0.third, s.requires.0.room, s.requires.1.1)
+overflow_add-chains : tie.Need-overflow_add-chains invariant-loop decreases-loop
+overflow_add-chains c = let s = c.before.before in omega (arith, s.requires.0.second, s.requires.0.third, s.requires.0.room, s.requires.1.1)
 
-word-requires : tie.Need-word-requires invariant-loop decreases-loop
-word-requires c κs = let s = c.before.before.before in omega (arith, s.requires.0.second, s.requires.0.third, s.requires.0.room, s.requires.1.1)
+word-q-requires : tie.Need-word-q-requires invariant-loop decreases-loop
+word-q-requires c κs = let s = c.before.before in omega (arith, s.requires.0.second, s.requires.0.third, s.requires.0.room, s.requires.1.1)
 
-loop-holds : tie.Need-loop-init invariant-loop decreases-loop
-loop-holds c = let s = c.before.before.before.before in acrossing_first s.args.corners.now s.args.points s.args.work.now s.args.chains s.args.stamps s.args.marks s.args.v s.requires.0 s.requires.1.0 s.requires.1.1 c.word.result c.word.ensures
+loop-q-init : tie.Need-loop-q-init invariant-loop decreases-loop
+loop-q-init c = let s = c.before.before.before in acrossing_first s.args.corners.now s.args.points s.args.work.now s.args.chains s.args.stamps s.args.marks s.args.v s.requires.0 s.requires.1.0 s.requires.1.1 c.word-q.result c.word-q.ensures
 
-sub-k : tie.Need-overflow-sub-k invariant-loop decreases-loop
-sub-k c = omega arith
+overflow_sub-k : tie.Need-overflow_sub-k invariant-loop decreases-loop
+overflow_sub-k c = omega arith
 
-mul-word : tie.Need-overflow-mul-word invariant-loop decreases-loop
-mul-word c = let l = c.before.before in omega (arith, (handed l).lists.points)
+overflow_mul-points : tie.Need-overflow_mul-points invariant-loop decreases-loop
+overflow_mul-points c = let l = c.before in omega (arith, (handed l).lists.points)
 
-add-word-2 : tie.Need-overflow-add-word-2 invariant-loop decreases-loop
-add-word-2 c = let l = c.before.before in omega (arith, (handed l).lists.points, (handed l).lists.few)
+overflow_add-points : tie.Need-overflow_add-points invariant-loop decreases-loop
+overflow_add-points c = let l = c.before in omega (arith, (handed l).lists.points, (handed l).lists.few)
 
 after-requires : tie.Need-after-requires invariant-loop decreases-loop
-after-requires c κs = let i = c.before in omega (arith, k-low i, (handed i.before).lists.few)
+after-requires c κs = let i = c in omega (arith, k-low i, (handed i.before).lists.few)
 
-add-word-3 : tie.Need-overflow-add-word-3 invariant-loop decreases-loop
-add-word-3 c = let i = c.before.before in let l = i.before in omega (arith, k-low i, (handed l).lists.points, (handed l).lists.few, c.after.ensures, (handed l).lists.thirds)
+overflow_add-points-in-loop-q : tie.Need-overflow_add-points-in-loop-q invariant-loop decreases-loop
+overflow_add-points-in-loop-q c = let i = c.before in let l = i.before in omega (arith, k-low i, (handed l).lists.points, (handed l).lists.few, c.after.ensures, (handed l).lists.thirds)
 
-word-requires-2 : tie.Need-word-requires-2 invariant-loop decreases-loop
-word-requires-2 c κs = let i = c.before.before in let l = i.before in omega (arith, k-low i, (handed l).lists.thirds, c.after.ensures, (handed l).first, (handed l).second, (handed l).third, (handed l).room, l.loop.invariant.done.len)
+word-t-requires : tie.Need-word-t-requires invariant-loop decreases-loop
+word-t-requires c κs = let i = c.before in let l = i in omega (arith, k-low i, (handed l.before).lists.thirds, c.after.ensures, (handed l.before).first, (handed l.before).second, (handed l.before).third, (handed l.before).room, l.before.loop-q.invariant.done.len)
 
-behind-requires : tie.Need-behind-requires invariant-loop decreases-loop
-behind-requires c κs = let l = c.before.before.before.before in ((handed l).lists.thirds, (handed l).lists.few, t-low c)
+behind-d-requires : tie.Need-behind-d-requires invariant-loop decreases-loop
+behind-d-requires c κs = let l = c.before.before in ((handed l.before).lists.thirds, (handed l.before).lists.few, t-low c)
 
-add-word-4 : tie.Need-overflow-add-word-4 invariant-loop decreases-loop
-add-word-4 c = let b = c.before in let l = b.before.before.before.before.before in omega (arith, d-low b, (handed l).third, (handed l).room)
+overflow_add-stamps : tie.Need-overflow_add-stamps invariant-loop decreases-loop
+overflow_add-stamps c = let l = c.before.before.before.before in omega (arith, d-low c, (handed l).third, (handed l).room)
 
-word-requires-3 : tie.Need-word-requires-3 invariant-loop decreases-loop
-word-requires-3 c κs = let b = c.before in let l = b.before.before.before.before.before in omega (arith, d-low b, (handed l).third, (handed l).room, l.loop.invariant.done.len)
+word-requires : tie.Need-word-requires invariant-loop decreases-loop
+word-requires c κs = let b = c in let l = b.before.before.before in omega (arith, d-low b, (handed l.before).third, (handed l.before).room, l.before.loop-q.invariant.done.len)
 
-add-flag : tie.Need-overflow-add-flag invariant-loop decreases-loop
-add-flag c = let l = (In-of c).before in omega (arith, (start l).pre.1.1, (handed l).lists.points)
+overflow_add-flag : tie.Need-overflow_add-flag invariant-loop decreases-loop
+overflow_add-flag c = let l = (In-of c).before in omega (arith, (start l).requires.1.1, (handed l).lists.points)
 
-cast-flag : tie.Need-overflow-cast-flag invariant-loop decreases-loop
-cast-flag c = tt
+overflow_cast-flag : tie.Need-overflow_cast-flag invariant-loop decreases-loop
+overflow_cast-flag c = tt
 
-add-put : tie.Need-overflow-add-put invariant-loop decreases-loop
-add-put c = let i = In-of c.before in omega (arith, k-low i, (handed i.before).room)
+overflow_add-marks : tie.Need-overflow_add-marks invariant-loop decreases-loop
+overflow_add-marks c = let i = In-of c.before in omega (arith, k-low i, (handed i.before).room)
 
 put-requires : tie.Need-put-requires invariant-loop decreases-loop
-put-requires c κs = let i = In-of c.before in let l = i.before in (omega (arith, k-low i, (handed l).room, l.loop.inv.done.len), bit_low (eqb c.before.word3.result ((start l).args.v + 1)))
+put-requires c κs = let i = In-of c.before in let l = i.before in (omega (arith, k-low i, (handed l).room, l.loop-q.invariant.done.len), bit_low (eqb c.before.word.result ((start l).args.v + 1)))
 
-add-word-5 : tie.Need-overflow-add-word-5 invariant-loop decreases-loop
-add-word-5 c = let d = c.before.before.before in let i = In-of d.before.before in let l = i.before in omega (arith, (handed l).second, (handed l).third, (handed l).room)
+overflow_add-chains-in-loop-q : tie.Need-overflow_add-chains-in-loop-q invariant-loop decreases-loop
+overflow_add-chains-in-loop-q c = let d = c.before.before.before in let i = In-of d.before in let l = i.before in omega (arith, (handed l).second, (handed l).third, (handed l).room)
 
-add-word-6 : tie.Need-overflow-add-word-6 invariant-loop decreases-loop
-add-word-6 c = let d = c.before.before.before in let i = In-of d.before.before in let l = i.before in omega (arith, k-low i, (handed l).second, (handed l).third, (handed l).room)
+overflow_add-chains-in-loop-q-2 : tie.Need-overflow_add-chains-in-loop-q-2 invariant-loop decreases-loop
+overflow_add-chains-in-loop-q-2 c = let d = c.before.before.before in let i = In-of d.before in let l = i.before in omega (arith, k-low i, (handed l).second, (handed l).third, (handed l).room)
 
-word-requires-4 : tie.Need-word-requires-4 invariant-loop decreases-loop
-word-requires-4 c κs = let d = c.before.before.before in let i = In-of d.before.before in let l = i.before in omega (arith, k-low i, (handed l).second, (handed l).third, (handed l).room, l.loop.inv.done.len, d.put.auto.0)
+word-q-requires-in-loop-q : tie.Need-word-q-requires-in-loop-q invariant-loop decreases-loop
+word-q-requires-in-loop-q c κs = let d = c.before.before in let i = In-of d.before.before in let l = i.before in omega (arith, k-low i, (handed l).second, (handed l).third, (handed l).room, l.loop-q.invariant.done.len, d.put.auto.work)
 
-loop-less : tie.Need-loop-smaller invariant-loop decreases-loop
-loop-less c = let d = c.before.before.before.before in let x = d.before.before in let b = x.before.before in let w = b.before in let a = w.before in let i = a.before.before in let l = i.before in acrossing_less (Cs l) (start l).args.points (W₀ l) (start l).args.chains (start l).args.stamps (start l).args.marks (start l).args.v (handed l) (start l).requires.1.0 (start l).requires.1.1 l.loop.q (l.loop.q - 1) l.loop.work (k-is i) l.loop.invariant d.put.new.0 (bool_byte (eqb x.word3.result ((start l).args.v + 1))) c.word4.result d.put.ensures c.word4.ensures
+loop-q-smaller : tie.Need-loop-q-smaller invariant-loop decreases-loop
+loop-q-smaller c = let d = c.before.before.before in let x = d.before.before in let b = x.before in let w = b.before in let a = w.before in let i = a.before in let l = i in acrossing_less (Cs l.before) (start l.before).args.points (W₀ l.before) (start l.before).args.chains (start l.before).args.stamps (start l.before).args.marks (start l.before).args.v (handed l.before) (start l.before).requires.1.0 (start l.before).requires.1.1 l.before.loop-q.q (l.before.loop-q.q - 1) l.before.loop-q.work (k-is i) l.before.loop-q.invariant d.put.new.work (bool_byte (eqb x.word.result ((start l.before).args.v + 1))) c.word-q-in-loop-q.result d.put.ensures c.word-q-in-loop-q.ensures
 
-loop-again : tie.Need-loop-preserved invariant-loop decreases-loop
-loop-again c = let d = c.before.before.before.before in let x = d.before.before in let b = x.before.before in let w = b.before in let a = w.before in let i = a.before.before in let l = i.before in acrossing_next (Cs l) (start l).args.points (W₀ l) (start l).args.chains (start l).args.stamps (start l).args.marks (start l).args.v (handed l) (start l).requires.1.0 (start l).requires.1.1 l.loop.q (l.loop.q - 1) l.loop.work (k-is i) l.loop.invariant d.put.new.0 a.after.result w.word2.result b.behind.result x.word3.result (bool_byte (eqb x.word3.result ((start l).args.v + 1))) c.word4.result a.after.ensures w.word2.ensures b.behind.ensures x.word3.ensures (bit_one (eqb x.word3.result ((start l).args.v + 1))) d.put.ensures c.word4.ensures
+loop-q-preserved : tie.Need-loop-q-preserved invariant-loop decreases-loop
+loop-q-preserved c = let d = c.before.before.before in let x = d.before.before in let b = x.before in let w = b.before in let a = w.before in let i = a.before in let l = i in acrossing_next (Cs l.before) (start l.before).args.points (W₀ l.before) (start l.before).args.chains (start l.before).args.stamps (start l.before).args.marks (start l.before).args.v (handed l.before) (start l.before).requires.1.0 (start l.before).requires.1.1 l.before.loop-q.q (l.before.loop-q.q - 1) l.before.loop-q.work (k-is i) l.before.loop-q.invariant d.put.new.work a.after.result w.word-t.result b.behind-d.result x.word.result (bool_byte (eqb x.word.result ((start l.before).args.v + 1))) c.word-q-in-loop-q.result a.after.ensures w.word-t.ensures b.behind-d.ensures x.word.ensures (bit_one (eqb x.word.result ((start l.before).args.v + 1))) d.put.ensures c.word-q-in-loop-q.ensures
 
-same_length : tie.Need-same-length invariant-loop decreases-loop
-same_length c = c.before.loop.invariant.done.len
+shape_of-work : tie.Need-shape_of-work invariant-loop decreases-loop
+shape_of-work c = c.before.loop-q.invariant.done.len
 
 returns : tie.Need-returns invariant-loop decreases-loop
-returns c = let l = c.before in let z : l.loop.q ≡ 0 = omega (arith, c.loop-test.false) in subst (λ (n : ℕ). AcrossOf (Cs l) (start l).args.points (start l).args.marks (start l).args.v (spot (length (Cs l)) n) (W₀ l) l.loop.work) z l.loop.invariant.done
+returns c = let l = c.before in let z : l.loop-q.q ≡ 0 = omega (arith, c.loop-q-test.false) in subst (λ (n : ℕ). AcrossOf (Cs l) (start l).args.points (start l).args.marks (start l).args.v (spot (length (Cs l)) n) (W₀ l) l.loop-q.work) z l.loop-q.invariant.done
 
-pub mark-across-of-spec : {M : Type 1} → statement M
-mark-across-of-spec =
+pub mark_across_of_spec : {M : Type 1} → statement M
+mark_across_of_spec =
     tie.close
     (tie.spec
     invariant-loop
     decreases-loop
-    add-word
-    word-requires
-    loop-holds
-    sub-k
-    mul-word
-    add-word-2
+    overflow_add-chains
+    word-q-requires
+    loop-q-init
+    overflow_sub-k
+    overflow_mul-points
+    overflow_add-points
     after-requires
-    add-word-3
-    word-requires-2
-    behind-requires
-    add-word-4
-    word-requires-3
-    add-flag
-    cast-flag
-    add-put
+    overflow_add-points-in-loop-q
+    word-t-requires
+    behind-d-requires
+    overflow_add-stamps
+    word-requires
+    overflow_add-flag
+    overflow_cast-flag
+    overflow_add-marks
     put-requires
-    add-word-5
-    add-word-6
-    word-requires-4
-    loop-less
-    loop-again
-    same_length
+    overflow_add-chains-in-loop-q
+    overflow_add-chains-in-loop-q-2
+    word-q-requires-in-loop-q
+    loop-q-smaller
+    loop-q-preserved
+    shape_of-work
     returns)

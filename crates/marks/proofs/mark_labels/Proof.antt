@@ -11,92 +11,92 @@ use Rattle.marks.proofs.Turns.{zero-at, carry_turn'}
 use Rattle.marks.proofs.mark_labels.Statement.{statement}
 use Rattle.marks.proofs.mark_labels.Tie as tie
 
-abbrev invariant-loop : tie.invariant-loop
+abbrev invariant-loop : tie.invariant-loop-k
 invariant-loop corners labels points work₀ k₀ work k = Free 0 (points * 8) work₀ work × (k ≤ length corners) × Carrying corners labels points work k
 
-abbrev decreases-loop : tie.decreases-loop
+abbrev decreases-loop : tie.decreases-loop-k
 decreases-loop corners labels points work₀ k₀ work k = length corners - k
 
-abbrev start : tie.At-loop invariant-loop decreases-loop → tie.Start invariant-loop decreases-loop
+abbrev start : tie.At-loop-k invariant-loop decreases-loop → tie.Start invariant-loop decreases-loop
 start l = l.before.before.before.before.before.before.before.before
 
-abbrev Cs : tie.At-loop invariant-loop decreases-loop → List ℕ
+abbrev Cs : tie.At-loop-k invariant-loop decreases-loop → List ℕ
 Cs l = (start l).args.corners.now
 
-abbrev Ls : tie.At-loop invariant-loop decreases-loop → List ℕ
+abbrev Ls : tie.At-loop-k invariant-loop decreases-loop → List ℕ
 Ls l = (start l).args.labels.now
 
-size : (l : tie.At-loop invariant-loop decreases-loop) → (start l).args.points * 8 ≤ length l.loop.work
-size l = omega (arith, l.loop.invariant.0.len, (start l).requires.1.1, l.before.before.before.clear.auto.0)
+size : (l : tie.At-loop-k invariant-loop decreases-loop) → (start l).args.points * 8 ≤ length l.loop-k.work
+size l = omega (arith, l.loop-k.invariant.0.len, (start l).requires.1.1, l.before.before.before.clear.auto.work)
 
-v_low : (c : tie.After-word invariant-loop decreases-loop) → c.word.result < (start c.before.before).args.points
-v_low c = let l = c.before.before in omega (arith, c.word.ensures, (start l).requires.0.below l.loop.k c.before.loop-test.true)
+v_low : (c : tie.After-word-v invariant-loop decreases-loop) → c.word-v.result < (start c.before.before).args.points
+v_low c = let l = c.before.before in omega (arith, c.word-v.ensures, (start l).requires.0.below l.loop-k.k c.before.loop-k-test.true)
 
-i-low : (c : tie.After-word invariant-loop decreases-loop) → c.before.before.loop.k / 3 < length (Ls c.before.before)
-i-low c = let l = c.before.before in omega (arith, (start l).requires.1.0.size, c.before.loop-test.true)
+i-low : (c : tie.After-word-v invariant-loop decreases-loop) → c.before.before.loop-k.k / 3 < length (Ls c.before.before)
+i-low c = let l = c.before.before in omega (arith, (start l).requires.1.0.size, c.before.loop-k-test.true)
 
-l-low : (c : tie.After-small invariant-loop decreases-loop) → c.small.result < 8
-l-low c = let w = c.before.before in let l = w.before.before in omega (arith, c.small.ensures, (start l).requires.1.0.small (l.loop.k / 3) (i-low w))
+l-low : (c : tie.After-small-l invariant-loop decreases-loop) → c.small-l.result < 8
+l-low c = let w = c.before.before in let l = w.before.before in omega (arith, c.small-l.ensures, (start l).requires.1.0.small (l.loop-k.k / 3) (i-low w))
 
-mul-clear : tie.Need-overflow-mul-clear invariant-loop decreases-loop
-mul-clear c = let s = c.before.before.before.before in omega (arith, s.requires.0.points)
+overflow_mul-points : tie.Need-overflow_mul-points invariant-loop decreases-loop
+overflow_mul-points c = let s = c.before.before.before.before in omega (arith, s.requires.0.points)
 
 clear-requires : tie.Need-clear-requires invariant-loop decreases-loop
 clear-requires c κs = let s = c.before.before.before.before in omega (arith, s.requires.1.1)
 
-loop-holds : tie.Need-loop-init invariant-loop decreases-loop
-loop-holds c = let d = c.before.before in let s = d.before.before.before.before.before in (free_none d.clear.new.0, omega arith, carry_first s.args.corners.now s.args.labels.now s.args.points d.clear.new.0 (λ j l. zero-at (s.args.points * 8) j d.clear.new.0 (drop (s.args.points * 8) s.args.work.now) d.clear.ensures l))
+loop-k-init : tie.Need-loop-k-init invariant-loop decreases-loop
+loop-k-init c = let d = c.before.before in let s = d.before.before.before.before.before in (free_none d.clear.new.work, omega arith, carry_first s.args.corners.now s.args.labels.now s.args.points d.clear.new.work (λ j l. zero-at (s.args.points * 8) j d.clear.new.work (drop (s.args.points * 8) s.args.work.now) d.clear.ensures l))
 
-word-requires : tie.Need-word-requires invariant-loop decreases-loop
-word-requires c κs = omega (arith, c.loop-test.true)
+word-v-requires : tie.Need-word-v-requires invariant-loop decreases-loop
+word-v-requires c κs = omega (arith, c.loop-k-test.true)
 
-shared-slice-read-small : tie.Need-shared-slice-read-small invariant-loop decreases-loop
-shared-slice-read-small c = omega (arith, i-low c.before)
+bounds-labels-k : tie.Need-bounds-labels-k invariant-loop decreases-loop
+bounds-labels-k c = omega (arith, i-low c.before)
 
-small-requires : tie.Need-small-requires invariant-loop decreases-loop
-small-requires c κs = tt
+small-l-requires : tie.Need-small-l-requires invariant-loop decreases-loop
+small-l-requires c κs = tt
 
-mul-put : tie.Need-overflow-mul-put invariant-loop decreases-loop
-mul-put c = let w = c.before.before.before in omega (arith, v_low w, (start w.before.before).pre.0.points)
+overflow_mul-v : tie.Need-overflow_mul-v invariant-loop decreases-loop
+overflow_mul-v c = let w = c.before.before.before in omega (arith, v_low w, (start w.before.before).requires.0.points)
 
-add-put : tie.Need-overflow-add-put invariant-loop decreases-loop
-add-put c = let b = c.before in let w = b.before.before in omega (arith, v_low w, l-low b, (start w.before.before).pre.0.points)
+overflow_add-v : tie.Need-overflow_add-v invariant-loop decreases-loop
+overflow_add-v c = let b = c.before in let w = b.before.before in omega (arith, v_low w, l-low b, (start w.before.before).requires.0.points)
 
 put-requires : tie.Need-put-requires invariant-loop decreases-loop
 put-requires c κs = let b = c.before in let w = b.before.before in (omega (arith, v_low w, l-low b, size w.before.before), omega arith)
 
-add-k : tie.Need-overflow-add-k invariant-loop decreases-loop
-add-k c = let i = c.before.before.before.before.before.before.before in omega (arith, i.loop-test.true, (start i.before).pre.0.few)
+overflow_add-k : tie.Need-overflow_add-k invariant-loop decreases-loop
+overflow_add-k c = let i = c.before.before.before.before.before.before.before in omega (arith, i.loop-k-test.true, (start i.before).requires.0.few)
 
-loop-less : tie.Need-loop-smaller invariant-loop decreases-loop
-loop-less c = let i = c.before.before.before.before.before.before.before in omega (arith, i.loop-test.true)
+loop-k-smaller : tie.Need-loop-k-smaller invariant-loop decreases-loop
+loop-k-smaller c = let i = c.before.before.before.before.before.before.before in omega (arith, i.loop-k-test.true)
 
-loop-again : tie.Need-loop-preserved invariant-loop decreases-loop
-loop-again c = let d = c.before.before in let b = d.before.before in let w = b.before.before in let i = w.before in let l = i.before in (free_put (w.word.result * 8 + b.small.result) 1 l.loop.invariant.0 d.put.ensures (omega arith) (omega (arith, v_low w, l-low b)), omega (arith, i.loop-test.true), carry_turn' (Cs l) (Ls l) (start l).args.points l.loop.work d.put.new.0 l.loop.k w.word.result b.small.result (start l).requires.0 (start l).requires.1.0 i.loop-test.true (size l) w.word.ensures b.small.ensures d.put.ensures l.loop.invariant.2)
+loop-k-preserved : tie.Need-loop-k-preserved invariant-loop decreases-loop
+loop-k-preserved c = let d = c.before.before in let b = d.before.before in let w = b.before.before in let i = w.before in let l = i.before in (free_put (w.word-v.result * 8 + b.small-l.result) 1 l.loop-k.invariant.0 d.put.ensures (omega arith) (omega (arith, v_low w, l-low b)), omega (arith, i.loop-k-test.true), carry_turn' (Cs l) (Ls l) (start l).args.points l.loop-k.work d.put.new.work l.loop-k.k w.word-v.result b.small-l.result (start l).requires.0 (start l).requires.1.0 i.loop-k-test.true (size l) w.word-v.ensures b.small-l.ensures d.put.ensures l.loop-k.invariant.2)
 
-same_length : tie.Need-same-length invariant-loop decreases-loop
-same_length c = let l = c.before in l.loop.invariant.0.len ∙ l.before.before.before.clear.auto.0
+shape_of-work : tie.Need-shape_of-work invariant-loop decreases-loop
+shape_of-work c = let l = c.before in l.loop-k.invariant.0.len ∙ l.before.before.before.clear.auto.work
 
 returns : tie.Need-returns invariant-loop decreases-loop
-returns c = let l = c.before in let z : l.loop.k ≡ length (Cs l) = omega (arith, l.loop.invariant.1, c.loop-test.false) in record { carries = carry_last (Cs l) (Ls l) (start l).args.points l.loop.work (start l).requires.0.thirds (start l).requires.1.0.size (subst (Carrying (Cs l) (Ls l) (start l).args.points l.loop.work) z l.loop.invariant.2); rest = free_more (free_cleared ((start l).args.points * 8) (start l).args.work.now l.before.before.before.clear.new.0 (start l).requires.1.1 l.before.before.before.clear.ensures) l.loop.invariant.0 }
+returns c = let l = c.before in let z : l.loop-k.k ≡ length (Cs l) = omega (arith, l.loop-k.invariant.1, c.loop-k-test.false) in record { carries = carry_last (Cs l) (Ls l) (start l).args.points l.loop-k.work (start l).requires.0.thirds (start l).requires.1.0.size (subst (Carrying (Cs l) (Ls l) (start l).args.points l.loop-k.work) z l.loop-k.invariant.2); rest = free_more (free_cleared ((start l).args.points * 8) (start l).args.work.now l.before.before.before.clear.new.work (start l).requires.1.1 l.before.before.before.clear.ensures) l.loop-k.invariant.0 }
 
-pub mark-labels-spec : {M : Type 1} → statement M
-mark-labels-spec =
+pub mark_labels_spec : {M : Type 1} → statement M
+mark_labels_spec =
     tie.close
     (tie.spec
     invariant-loop
     decreases-loop
-    mul-clear
+    overflow_mul-points
     clear-requires
-    loop-holds
-    word-requires
-    shared-slice-read-small
-    small-requires
-    mul-put
-    add-put
+    loop-k-init
+    word-v-requires
+    bounds-labels-k
+    small-l-requires
+    overflow_mul-v
+    overflow_add-v
     put-requires
-    add-k
-    loop-less
-    loop-again
-    same_length
+    overflow_add-k
+    loop-k-smaller
+    loop-k-preserved
+    shape_of-work
     returns)

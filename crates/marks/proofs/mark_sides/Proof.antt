@@ -12,66 +12,66 @@ use Rattle.marks.proofs.Turns.{turn_kept, turn_stamping, turn_marking, turn_stam
 use Rattle.marks.proofs.mark_sides.Statement.{statement}
 use Rattle.marks.proofs.mark_sides.Tie as tie
 
-abbrev invariant-loop : tie.invariant-loop
+abbrev invariant-loop : tie.invariant-loop-v
 invariant-loop corners points chains stamps marks work₀ v₀ work v = (v ≤ points) × MarkedBelow corners points stamps marks v work₀ work
 
-abbrev decreases-loop : tie.decreases-loop
+abbrev decreases-loop : tie.decreases-loop-v
 decreases-loop corners points chains stamps marks work₀ v₀ work v = points - v
 
-abbrev start : tie.At-loop invariant-loop decreases-loop → tie.Start invariant-loop decreases-loop
+abbrev start : tie.At-loop-v invariant-loop decreases-loop → tie.Start invariant-loop decreases-loop
 start l = l.before.before.before.before.before.before.before
 
-abbrev Cs : tie.At-loop invariant-loop decreases-loop → List ℕ
+abbrev Cs : tie.At-loop-v invariant-loop decreases-loop → List ℕ
 Cs l = (start l).args.corners.now
 
-abbrev W₀ : tie.At-loop invariant-loop decreases-loop → List ℕ
-W₀ l = l.before.before.before.clear-from.new.1.1.0
+abbrev W₀ : tie.At-loop-v invariant-loop decreases-loop → List ℕ
+W₀ l = l.before.before.before.clear_from.new.work
 
-cleared : (l : tie.At-loop invariant-loop decreases-loop) → Cleared (start l).args.stamps (start l).args.points (start l).args.work.now (W₀ l)
-cleared l = l.before.before.before.clear-from.ensures
+cleared : (l : tie.At-loop-v invariant-loop decreases-loop) → Cleared (start l).args.stamps (start l).args.points (start l).args.work.now (W₀ l)
+cleared l = l.before.before.before.clear_from.ensures
 
-handed : (l : tie.At-loop invariant-loop decreases-loop) → Marking (Cs l) (start l).args.points (W₀ l) (start l).args.chains (start l).args.stamps (start l).args.marks
+handed : (l : tie.At-loop-v invariant-loop decreases-loop) → Marking (Cs l) (start l).args.points (W₀ l) (start l).args.chains (start l).args.stamps (start l).args.marks
 handed l = marking-kept (W₀ l) (cleared l).len (cleared l).under (start l).requires
 
-clear-from-requires : tie.Need-clear-from-requires invariant-loop decreases-loop
-clear-from-requires c κs = let s = c.before.before.before in omega (arith, s.requires.third, s.requires.room)
+clear_from-requires : tie.Need-clear_from-requires invariant-loop decreases-loop
+clear_from-requires c κs = let s = c.before.before.before in omega (arith, s.requires.third, s.requires.room)
 
-loop-holds : tie.Need-loop-init invariant-loop decreases-loop
-loop-holds c = let d = c.before.before in let s = d.before.before.before.before in (omega arith, below-first s.args.corners.now s.args.points s.args.stamps s.args.marks d.clear-from.new.1.1.0 d.clear-from.ensures.zeros)
+loop-v-init : tie.Need-loop-v-init invariant-loop decreases-loop
+loop-v-init c = let d = c.before.before in let s = d.before.before.before.before in (omega arith, below-first s.args.corners.now s.args.points s.args.stamps s.args.marks d.clear_from.new.work d.clear_from.ensures.zeros)
 
-stamp-around-requires : tie.Need-stamp-around-requires invariant-loop decreases-loop
-stamp-around-requires c κs = let i = c.before in let l = i.before in (walking_of (turn_kept (Cs l) (start l).args.points (W₀ l) (start l).args.chains (start l).args.stamps (start l).args.marks l.loop.v (handed l) l.loop.work l.loop.invariant.1.rest.len l.loop.invariant.1.rest.under), i.loop-test.true)
+stamp_around-requires : tie.Need-stamp_around-requires invariant-loop decreases-loop
+stamp_around-requires c κs = let i = c.before in let l = i.before in (walking_of (turn_kept (Cs l) (start l).args.points (W₀ l) (start l).args.chains (start l).args.stamps (start l).args.marks l.loop-v.v (handed l) l.loop-v.work l.loop-v.invariant.1.rest.len l.loop-v.invariant.1.rest.under), i.loop-v-test.true)
 
-mark-sides-of-requires : tie.Need-mark-sides-of-requires invariant-loop decreases-loop
-mark-sides-of-requires c κs = let a = c.before.before.before in let i = a.before.before in let l = i.before in (turn_marking (Cs l) (start l).args.points (W₀ l) (start l).args.chains (start l).args.stamps (start l).args.marks l.loop.v (handed l) l.loop.work l.loop.invariant.1.rest.len l.loop.invariant.1.rest.under a.stamp-around.new.1.1.1.1.1.0 a.stamp-around.ensures, (turn_stamped (Cs l) (start l).args.points (W₀ l) (start l).args.chains (start l).args.stamps (start l).args.marks l.loop.v (handed l) l.loop.work l.loop.invariant.1.rest.len l.loop.invariant.1.rest.under a.stamp-around.new.1.1.1.1.1.0 a.stamp-around.ensures l.loop.invariant.1.low, i.loop-test.true))
+mark_sides_of-requires : tie.Need-mark_sides_of-requires invariant-loop decreases-loop
+mark_sides_of-requires c κs = let a = c.before.before.before in let i = a.before.before in let l = i.before in (turn_marking (Cs l) (start l).args.points (W₀ l) (start l).args.chains (start l).args.stamps (start l).args.marks l.loop-v.v (handed l) l.loop-v.work l.loop-v.invariant.1.rest.len l.loop-v.invariant.1.rest.under a.stamp_around.new.work a.stamp_around.ensures, (turn_stamped (Cs l) (start l).args.points (W₀ l) (start l).args.chains (start l).args.stamps (start l).args.marks l.loop-v.v (handed l) l.loop-v.work l.loop-v.invariant.1.rest.len l.loop-v.invariant.1.rest.under a.stamp_around.new.work a.stamp_around.ensures l.loop-v.invariant.1.low, i.loop-v-test.true))
 
-add-v : tie.Need-overflow-add-v invariant-loop decreases-loop
-add-v c = let b = c.before.before in let i = b.before.before.before.before.before.before in let l = i.before in omega (arith, i.loop-test.true, (handed l).lists.points)
+overflow_add-v : tie.Need-overflow_add-v invariant-loop decreases-loop
+overflow_add-v c = let b = c.before.before in let i = b.before.before.before.before.before.before in let l = i.before in omega (arith, i.loop-v-test.true, (handed l).lists.points)
 
-loop-less : tie.Need-loop-smaller invariant-loop decreases-loop
-loop-less c = let b = c.before.before in let i = b.before.before.before.before.before.before in omega (arith, i.loop-test.true)
+loop-v-smaller : tie.Need-loop-v-smaller invariant-loop decreases-loop
+loop-v-smaller c = let b = c.before.before in let i = b.before.before.before.before.before.before in omega (arith, i.loop-v-test.true)
 
-loop-again : tie.Need-loop-preserved invariant-loop decreases-loop
-loop-again c = let b = c.before.before in let a = b.before.before.before.before in let i = a.before.before in let l = i.before in (omega (arith, i.loop-test.true), below_turn (Cs l) (start l).args.points (start l).args.stamps (start l).args.marks l.loop.v (W₀ l) l.loop.work a.stamp-around.new.1.1.1.1.1.0 b.mark-sides-of.new.1.1.1.1.1.1.0 (handed l).third (omega (arith, (handed l).first, (handed l).second)) (handed l).lists l.loop.invariant.1 (turn_stamping (Cs l) (start l).args.points (W₀ l) (start l).args.chains (start l).args.stamps (start l).args.marks l.loop.v (handed l) l.loop.work l.loop.invariant.1.rest.len l.loop.invariant.1.rest.under a.stamp-around.new.1.1.1.1.1.0 a.stamp-around.ensures) b.mark-sides-of.ensures)
+loop-v-preserved : tie.Need-loop-v-preserved invariant-loop decreases-loop
+loop-v-preserved c = let b = c.before.before in let a = b.before.before.before.before in let i = a.before.before in let l = i.before in (omega (arith, i.loop-v-test.true), below_turn (Cs l) (start l).args.points (start l).args.stamps (start l).args.marks l.loop-v.v (W₀ l) l.loop-v.work a.stamp_around.new.work b.mark_sides_of.new.work (handed l).third (omega (arith, (handed l).first, (handed l).second)) (handed l).lists l.loop-v.invariant.1 (turn_stamping (Cs l) (start l).args.points (W₀ l) (start l).args.chains (start l).args.stamps (start l).args.marks l.loop-v.v (handed l) l.loop-v.work l.loop-v.invariant.1.rest.len l.loop-v.invariant.1.rest.under a.stamp_around.new.work a.stamp_around.ensures) b.mark_sides_of.ensures)
 
-same_length : tie.Need-same-length invariant-loop decreases-loop
-same_length c = let l = c.before in l.loop.invariant.1.rest.len ∙ (cleared l).len
+shape_of-work : tie.Need-shape_of-work invariant-loop decreases-loop
+shape_of-work c = let l = c.before in l.loop-v.invariant.1.rest.len ∙ (cleared l).len
 
 returns : tie.Need-returns invariant-loop decreases-loop
-returns c = let l = c.before in sides_end (Cs l) (start l).args.points (start l).args.work.now (W₀ l) l.loop.work (start l).args.chains (start l).args.stamps (start l).args.marks l.loop.v (omega (arith, c.loop-test.false, l.loop.invariant.0)) (handed l) (cleared l) l.loop.invariant.1
+returns c = let l = c.before in sides_end (Cs l) (start l).args.points (start l).args.work.now (W₀ l) l.loop-v.work (start l).args.chains (start l).args.stamps (start l).args.marks l.loop-v.v (omega (arith, c.loop-v-test.false, l.loop-v.invariant.0)) (handed l) (cleared l) l.loop-v.invariant.1
 
-pub mark-sides-spec : {M : Type 1} → statement M
-mark-sides-spec =
+pub mark_sides_spec : {M : Type 1} → statement M
+mark_sides_spec =
     tie.close
     (tie.spec
     invariant-loop
     decreases-loop
-    clear-from-requires
-    loop-holds
-    stamp-around-requires
-    mark-sides-of-requires
-    add-v
-    loop-less
-    loop-again
-    same_length
+    clear_from-requires
+    loop-v-init
+    stamp_around-requires
+    mark_sides_of-requires
+    overflow_add-v
+    loop-v-smaller
+    loop-v-preserved
+    shape_of-work
     returns)

@@ -10,97 +10,97 @@ use borrow.Author.Rules.{rules}
 use Rattle.outlines.proofs.visit.Statement.{statement}
 use Rattle.outlines.proofs.visit.Tie as tie
 
-abbrev areas : tie.After-up-place → tie.After-marks-from
-areas u = u.before.before.before
+abbrev areas : tie.After-up_place-u → tie.After-marks_from-marks
+areas u = u.before.before
 
-abbrev start : tie.After-up-place → tie.Start
+abbrev start : tie.After-up_place-u → tie.Start
 start u = (areas u).before.before.before.before.before
 
-u-is : (u : tie.After-up-place) → u.up-place.result ≡ up_place (start u).args.corners.now (start u).args.points (start u).args.work.now (start u).args.k
-u-is u = let s = start u in up_of s.args.corners.now s.args.points s.args.work.now s.args.k _ _ _ (areas u).before.twins-from.ensures u.before.word.ensures u.up-place.ensures
+u-is : (u : tie.After-up_place-u) → u.up_place-u.result ≡ up_place (start u).args.corners.now (start u).args.points (start u).args.work.now (start u).args.k
+u-is u = let s = start u in up_of s.args.corners.now s.args.points s.args.work.now s.args.k _ _ _ (areas u).before.twins_from-twins.ensures u.before.word-t.ensures u.up_place-u.ensures
 
-u-low : (u : tie.After-up-place) → u.up-place.result < length (start u).args.corners.now
-u-low u = let s = start u in omega (arith, up-low s.args.corners.now s.args.points s.args.work.now s.args.k s.pre.0 s.pre.1.0, u-is u)
+u-low : (u : tie.After-up_place-u) → u.up_place-u.result < length (start u).args.corners.now
+u-low u = let s = start u in omega (arith, up-low s.args.corners.now s.args.points s.args.work.now s.args.k s.requires.0 s.requires.1.0, u-is u)
 
 -- the corners that are written fit a word
-abbrev upward : tie.After-ahead → tie.After-up-place
+abbrev upward : tie.After-ahead-high → tie.After-up_place-u
 upward a = a.before.before.before
 
-low_fits : (a : tie.After-ahead) → a.before.wide.result < 4294967296
+low_fits : (a : tie.After-ahead-high) → a.before.wide-low.result < 4294967296
 low_fits a =
     let u = upward a in
     let s = start u in
-    omega (arith, from_low s.args.corners.now s.args.points s.args.work.now u.up-place.result s.pre.0 (u-low u), s.pre.0.points, a.before.wide.ensures)
+    omega (arith, from_low s.args.corners.now s.args.points s.args.work.now u.up_place-u.result s.requires.0 (u-low u), s.requires.0.points, a.before.wide-low.ensures)
 
-high_fits : (a : tie.After-ahead) → a.ahead.result < 4294967296
+high_fits : (a : tie.After-ahead-high) → a.ahead-high.result < 4294967296
 high_fits a =
     let u = upward a in
     let s = start u in
-    omega (arith, to_low s.args.corners.now s.args.points s.args.work.now u.up-place.result s.pre.0 (u-low u), s.pre.0.points, a.ahead.ensures)
+    omega (arith, to_low s.args.corners.now s.args.points s.args.work.now u.up_place-u.result s.requires.0 (u-low u), s.requires.0.points, a.ahead-high.ensures)
 
-twins-from-requires : tie.Need-twins-from-requires
-twins-from-requires c κs = search rules
+twins_from-twins-requires : tie.Need-twins_from-twins-requires
+twins_from-twins-requires c κs = search rules
 
-marks-from-requires : tie.Need-marks-from-requires
-marks-from-requires c κs = search rules
+marks_from-marks-requires : tie.Need-marks_from-marks-requires
+marks_from-marks-requires c κs = search rules
 
-add-word : tie.Need-overflow-add-word
-add-word c = search rules
+overflow_add-twins : tie.Need-overflow_add-twins
+overflow_add-twins c = search rules
 
-word-requires : tie.Need-word-requires
-word-requires c κs = search rules
+word-t-requires : tie.Need-word-t-requires
+word-t-requires c κs = search rules
 
-up-place-requires : tie.Need-up-place-requires
-up-place-requires c κs = search rules
+up_place-u-requires : tie.Need-up_place-u-requires
+up_place-u-requires c κs = search rules
 
-mul_wide : tie.Need-overflow-mul-wide
-mul_wide c = omega (arith, u-low c, (start c).requires.0.few)
+offset_bounds-corners-u : tie.Need-offset_bounds-corners-u
+offset_bounds-corners-u c = omega (arith, u-low c, (start c).requires.0.few)
 
-shared-slice-read-wide : tie.Need-shared-slice-read-wide
-shared-slice-read-wide c = u-low c.before
+bounds-corners-u : tie.Need-bounds-corners-u
+bounds-corners-u c = u-low c.before
 
-wide-requires : tie.Need-wide-requires
-wide-requires c κs = search rules
+wide-low-requires : tie.Need-wide-low-requires
+wide-low-requires c κs = search rules
 
-ahead-requires : tie.Need-ahead-requires
-ahead-requires c κs = let u = c.before.before in ((start u).requires.0.thirds, (start u).requires.0.few, u-low u)
+ahead-high-requires : tie.Need-ahead-high-requires
+ahead-high-requires c κs = let u = c.before.before in ((start u).requires.0.thirds, (start u).requires.0.few, u-low u)
 
 -- the mark is in range, of whichever place of the side it is
-add-put : tie.Need-overflow-add-put
-add-put c = let u = upward c.before in omega (arith, u-low u, (start u).pre, (areas u).marks-from.ensures)
+overflow_add-marks : tie.Need-overflow_add-marks
+overflow_add-marks c = let u = upward c.before in omega (arith, u-low u, (start u).requires, (areas u).marks_from-marks.ensures)
 
 put-requires : tie.Need-put-requires
-put-requires c κs = let u = upward c.before in (omega (arith, u-low u, (start u).pre, (areas u).marks-from.ensures), lit< tt)
+put-requires c κs = let u = upward c.before in (omega (arith, u-low u, (start u).requires, (areas u).marks_from-marks.ensures), lit< tt)
 
-mul-put : tie.Need-overflow-mul-put
-mul-put c = search rules
+overflow_mul-filled : tie.Need-overflow_mul-filled
+overflow_mul-filled c = search rules
 
 put-requires-2 : tie.Need-put-requires-2
 put-requires-2 c κs = let a = c.before.before.before.before.before in (omega (arith, (start (upward a)).requires.1.1.0), omega (arith, low_fits a, high_fits a))
 
-mul-put-2 : tie.Need-overflow-mul-put-2
-mul-put-2 c = search rules
+overflow_mul-filled-2 : tie.Need-overflow_mul-filled-2
+overflow_mul-filled-2 c = search rules
 
-add-put-2 : tie.Need-overflow-add-put-2
-add-put-2 c = search rules
+overflow_add-filled : tie.Need-overflow_add-filled
+overflow_add-filled c = search rules
 
 put-requires-3 : tie.Need-put-requires-3
-put-requires-3 c κs = let a = c.before.before.before.before.before.before.before.before.before in (omega (arith, (start (upward a)).requires.1.1.0, c.before.before.before.put2.auto.0), omega (arith, low_fits a, high_fits a))
+put-requires-3 c κs = let a = c.before.before.before.before.before.before.before.before.before in (omega (arith, (start (upward a)).requires.1.1.0, c.before.before.before.put-2.auto.work), omega (arith, low_fits a, high_fits a))
 
-mul-put-3 : tie.Need-overflow-mul-put-3
-mul-put-3 c = search rules
+overflow_mul-filled-3 : tie.Need-overflow_mul-filled-3
+overflow_mul-filled-3 c = search rules
 
-add-put-3 : tie.Need-overflow-add-put-3
-add-put-3 c = search rules
+overflow_add-filled-2 : tie.Need-overflow_add-filled-2
+overflow_add-filled-2 c = search rules
 
 put-requires-4 : tie.Need-put-requires-4
 put-requires-4 c κs = search rules
 
-same_length : tie.Need-same-length
-same_length c = search rules
+shape_of-work : tie.Need-shape_of-work
+shape_of-work c = search rules
 
-same-length-2 : tie.Need-same-length-2
-same-length-2 c = search rules
+shape_of-places : tie.Need-shape_of-places
+shape_of-places c = search rules
 
 returns : tie.Need-returns
 returns c =
@@ -110,35 +110,35 @@ returns c =
     let cs = s.args.corners.now in
     let w = s.args.work.now in
     record {
-      mark = marked-is cs s.args.points w s.args.k _ _ _ (areas u).marks-from.ensures (u-is u) c.before.before.before.before.before.before.before.before.before.before.before.before.before.before.put.ensures;
-      place = noted-is cs s.args.points w s.args.k _ _ _ s.args.filled s.args.number s.args.places.now _ _ _ (u-is u) a.before.wide.ensures a.ahead.ensures
-          c.before.before.before.before.before.before.before.before.before.before.put2.ensures c.before.before.before.before.before.before.put3.ensures c.before.before.put4.ensures;
+      mark = marked-is cs s.args.points w s.args.k _ _ _ (areas u).marks_from-marks.ensures (u-is u) c.before.before.before.before.before.before.before.before.before.before.before.before.before.before.put.ensures;
+      place = noted-is cs s.args.points w s.args.k _ _ _ s.args.filled s.args.number s.args.places.now _ _ _ (u-is u) a.before.wide-low.ensures a.ahead-high.ensures
+          c.before.before.before.before.before.before.before.before.before.before.put-2.ensures c.before.before.before.before.before.before.put-3.ensures c.before.before.put-4.ensures;
       upper = u-is u;
     }
 
-pub visit-spec : {M : Type 1} → statement M
-visit-spec =
+pub visit_spec : {M : Type 1} → statement M
+visit_spec =
     tie.close
     (tie.spec
-    twins-from-requires
-    marks-from-requires
-    add-word
-    word-requires
-    up-place-requires
-    mul_wide
-    shared-slice-read-wide
-    wide-requires
-    ahead-requires
-    add-put
+    twins_from-twins-requires
+    marks_from-marks-requires
+    overflow_add-twins
+    word-t-requires
+    up_place-u-requires
+    offset_bounds-corners-u
+    bounds-corners-u
+    wide-low-requires
+    ahead-high-requires
+    overflow_add-marks
     put-requires
-    mul-put
+    overflow_mul-filled
     put-requires-2
-    mul-put-2
-    add-put-2
+    overflow_mul-filled-2
+    overflow_add-filled
     put-requires-3
-    mul-put-3
-    add-put-3
+    overflow_mul-filled-3
+    overflow_add-filled-2
     put-requires-4
-    same_length
-    same-length-2
+    shape_of-work
+    shape_of-places
     returns)

@@ -13,43 +13,51 @@ use Rattle.price.proofs.Cubes.{not_negative, same_size, none-begun, one-begun, n
 use Rattle.price.proofs.started_cubes.Statement.{statement}
 use Rattle.price.proofs.started_cubes.Tie as tie
 
-back : (c : tie.After-struct-told) → to_z w64 (of_z w64 c.before.before.args.six.high) ≡ c.before.before.args.six.high
-back c = to_z-of_z w64 c.before.before.args.six.high (record { sfits = c.struct_told.given.0.1 })
+back : (c : tie.After-struct_told-1) → to_z w64 (of_z w64 c.before.before.args.six.high) ≡ c.before.before.args.six.high
+back c = to_z-of_z w64 c.before.before.args.six.high (record { sfits = c.struct_told-1.given.0.1 })
 
-not_less : (c : tie.Else1) → lt_z c.before.before.before.args.six.high (pos 0) ≡ false
-not_less c = ap (λ (z : ℤ). lt_z z (pos 0)) (sym (back c.before)) ∙ c.if1.false
+not_less : (c : tie.Else-six-lt0) → lt_z c.before.before.before.args.six.high (pos 0) ≡ false
+not_less c = ap (λ (z : ℤ). lt_z z (pos 0)) (sym (back c.before)) ∙ c.if-six-lt0.false
 
-size : (c : tie.Else1) → nat_abs (to_z w64 (of_z w64 c.before.before.before.args.six.high)) < 2 ^ 63
+size : (c : tie.Else-six-lt0) → nat_abs (to_z w64 (of_z w64 c.before.before.before.args.six.high)) < 2 ^ 63
 size c =
-    subst (λ (n : ℕ). n < 2 ^ 63) (sym (ap nat_abs (back c.before) ∙ same_size c.before.before.before.args.six.high (not_less c))) c.before.struct_told.given.0.1
+    subst (λ (n : ℕ). n < 2 ^ 63) (sym (ap nat_abs (back c.before) ∙ same_size c.before.before.before.args.six.high (not_less c))) c.before.struct_told-1.given.0.1
 
-returns : tie.Need-returns
-returns c =
+returns-then-six-lt0 : tie.Need-returns-then-six-lt0
+returns-then-six-lt0 c =
     let s = c.before.before.before in
-    none-started s.args.six.high s.args.six.low (ap (λ (z : ℤ). lt_z z (pos 0)) (sym (back c.before)) ∙ c.if1.true) s.requires
+    none-started s.args.six.high s.args.six.low (ap (λ (z : ℤ). lt_z z (pos 0)) (sym (back c.before)) ∙ c.if-six-lt0.true) s.requires
 
-cast-high : tie.Need-overflow-cast-high
-cast-high c =
+overflow_cast-high : tie.Need-overflow_cast-high
+overflow_cast-high c =
     let e = c.before.before in
     (subst (λ (z : ℤ). T (non_neg z)) (sym (back e.before)) (not_negative e.before.before.before.args.six.high (not_less e)), let h = size e in omega arith)
 
-add-result : tie.Need-overflow-add-result
-add-result c = let h = size c.before.before.before.before in omega arith
+overflow_add-result : tie.Need-overflow_add-result
+overflow_add-result c = let h = size c.before.before.before.before in omega arith
 
-returns-2 : tie.Need-returns-2
-returns-2 c =
+returns-then-six-eq0 : tie.Need-returns-then-six-eq0
+returns-then-six-eq0 c =
     let e = c.before.before.before.before in
     let s = e.before.before.before in
-    ap (λ (z : ℤ). (nat_abs z + 2) / 3) (back e.before) ∙ none-begun s.args.six.high s.args.six.low (not_less e) c.if2.true
+    ap (λ (z : ℤ). (nat_abs z + 2) / 3) (back e.before) ∙ none-begun s.args.six.high s.args.six.low (not_less e) c.if-six-eq0.true
 
-add-result-2 : tie.Need-overflow-add-result-2
-add-result-2 c = let h = size c.before.before.before.before in omega arith
+overflow_add-result-2 : tie.Need-overflow_add-result-2
+overflow_add-result-2 c = let h = size c.before.before.before.before in omega arith
 
-returns-3 : tie.Need-returns-3
-returns-3 c =
+returns : tie.Need-returns
+returns c =
     let e = c.before.before.before.before in
     let s = e.before.before.before in
-    ap (λ (z : ℤ). (nat_abs z + 3) / 3) (back e.before) ∙ one-begun s.args.six.high s.args.six.low (not_less e) s.requires c.if2.false
+    ap (λ (z : ℤ). (nat_abs z + 3) / 3) (back e.before) ∙ one-begun s.args.six.high s.args.six.low (not_less e) s.requires c.if-six-eq0.false
 
-pub started-cubes-spec : {M : Type 1} → statement M
-started-cubes-spec = tie.close (tie.spec returns cast-high add-result returns-2 add-result-2 returns-3)
+pub started_cubes_spec : {M : Type 1} → statement M
+started_cubes_spec =
+    tie.close
+    (tie.spec
+    returns-then-six-lt0
+    overflow_cast-high
+    overflow_add-result
+    returns-then-six-eq0
+    overflow_add-result-2
+    returns)

@@ -4,7 +4,7 @@ use mathlib.Core.Path.{◌≡◌, refl, sym, ◌∙◌}
 use mathlib.Core.Bool.{true}
 use native.Mathlib.Omega.{arith}
 use borrow.Author.Rules.{rules}
-use borrow.Author.Tests.{not_true, not-false}
+use borrow.Author.Tests.{not-true, not-false}
 use Rattle.closing.specs.Closing.{needed as lent}
 use Rattle.closing.proofs.Whole.{far-on}
 use Rattle.questions.specs.Questions.{known?, listed?}
@@ -12,48 +12,48 @@ use Rattle.questions.proofs.Chain.{told-differ, unknown, unlisted, not_differ, a
 use Rattle.questions.proofs.before_rules.Statement.{statement}
 use Rattle.questions.proofs.before_rules.Tie as tie
 
-labels-known-requires : tie.Need-labels-known-requires
-labels-known-requires c κs = search rules
+labels_known-requires : tie.Need-labels_known-requires
+labels_known-requires c κs = search rules
 
 -- the labels are known, and the corners are listed
-known : (c : tie.Else1) → known? c.before.before.before.before.before.args.labels.now ≡ true
-known c = sym c.before.labels-known.ensures ∙ not-false _ c.if1.false
+known : (c : tie.Else-not-labels_known) → known? c.before.before.before.before.before.args.labels.now ≡ true
+known c = sym c.before.labels_known.ensures ∙ c.if-not-labels_known.false
 
-are-listed : (c : tie.Else2) → listed? c.before.before.before.before.before.before.before.args.points c.before.before.before.before.before.before.before.args.corners.now ≡ true
-are-listed c = sym c.before.corners-listed.ensures ∙ not-false _ c.if2.false
+are-listed : (c : tie.Else-not-corners_listed) → listed? c.before.before.before.before.before.before.before.args.points c.before.before.before.before.before.before.before.args.corners.now ≡ true
+are-listed c = sym c.before.corners_listed.ensures ∙ c.if-not-corners_listed.false
 
-returns : tie.Need-returns
-returns c = record { answer = unknown _ _ _ (sym c.before.labels-known.ensures ∙ not_true _ c.if1.true); far = refl }
+returns-then-not-labels_known : tie.Need-returns-then-not-labels_known
+returns-then-not-labels_known c = record { answer = unknown _ _ _ (sym c.before.labels_known.ensures ∙ c.if-not-labels_known.true); far = refl }
 
-corners-listed-requires : tie.Need-corners-listed-requires
-corners-listed-requires c κs = search rules
+corners_listed-requires : tie.Need-corners_listed-requires
+corners_listed-requires c κs = search rules
 
-returns-2 : tie.Need-returns-2
-returns-2 c = record { answer = unlisted _ _ _ (known c.before.before) (sym c.before.corners-listed.ensures ∙ not_true _ c.if2.true); far = refl }
+returns-then-not-corners_listed : tie.Need-returns-then-not-corners_listed
+returns-then-not-corners_listed c = record { answer = unlisted _ _ _ (known c.before.before) (sym c.before.corners_listed.ensures ∙ c.if-not-corners_listed.true); far = refl }
 
-corners-differ-requires : tie.Need-corners-differ-requires
-corners-differ-requires c κs = search rules
+corners_differ-requires : tie.Need-corners_differ-requires
+corners_differ-requires c κs = search rules
 
-returns-3 : tie.Need-returns-3
-returns-3 c =
+returns-then-not-corners_differ : tie.Need-returns-then-not-corners_differ
+returns-then-not-corners_differ c =
     let d = c.before in
     let e = d.before in
     let s = e.before.before.before.before.before.before.before in
     record {
-      answer = not_differ _ _ _ (known e.before.before) (are-listed e) (told-differ _ _ s.requires.thirds d.corners-differ.ensures ∙ not_true _ c.if3.true);
+      answer = not_differ _ _ _ (known e.before.before) (are-listed e) (told-differ _ _ s.requires.thirds d.corners_differ.ensures ∙ c.if-not-corners_differ.true);
       far = refl;
     }
 
-labels-agree-requires : tie.Need-labels-agree-requires
-labels-agree-requires c κs =
+labels_agree-requires : tie.Need-labels_agree-requires
+labels_agree-requires c κs =
     let e = c.before.before.before in
     listed _ _ _ (known e.before.before) (are-listed e) e.before.before.before.before.before.before.before.requires
 
-same_length : tie.Need-same-length
-same_length c = search rules
+shape_of-work-then-not-labels_agree : tie.Need-shape_of-work-then-not-labels_agree
+shape_of-work-then-not-labels_agree c = search rules
 
-returns-4 : tie.Need-returns-4
-returns-4 c =
+returns-then-not-labels_agree : tie.Need-returns-then-not-labels_agree
+returns-then-not-labels_agree c =
     let a = c.before.before.before in
     let d = a.before.before in
     let e = d.before.before in
@@ -61,16 +61,16 @@ returns-4 c =
     let cs = s.args.corners.now in
     let p = s.args.points in
     record {
-      answer = agree_asked p cs s.args.labels.now (known e.before.before) (are-listed e) (told-differ cs _ s.requires.thirds d.before.corners-differ.ensures ∙ not-false _ d.if3.false)
-          (sym a.labels-agree.ensures.answer ∙ not_true _ c.if4.true);
-      far = far-on (p * 8) (lent cs p) _ _ (omega arith) a.labels-agree.ensures.far;
+      answer = agree_asked p cs s.args.labels.now (known e.before.before) (are-listed e) (told-differ cs _ s.requires.thirds d.before.corners_differ.ensures ∙ d.if-not-corners_differ.false)
+          (sym a.labels_agree.ensures.answer ∙ c.if-not-labels_agree.true);
+      far = far-on (p * 8) (lent cs p) _ _ (omega arith) a.labels_agree.ensures.far;
     }
 
-same-length-2 : tie.Need-same-length-2
-same-length-2 c = search rules
+shape_of-work : tie.Need-shape_of-work
+shape_of-work c = search rules
 
-returns-5 : tie.Need-returns-5
-returns-5 c =
+returns : tie.Need-returns
+returns c =
     let a = c.before.before.before in
     let d = a.before.before in
     let e = d.before.before in
@@ -78,23 +78,23 @@ returns-5 c =
     let cs = s.args.corners.now in
     let p = s.args.points in
     record {
-      answer = agree_asked p cs s.args.labels.now (known e.before.before) (are-listed e) (told-differ cs _ s.requires.thirds d.before.corners-differ.ensures ∙ not-false _ d.if3.false)
-          (sym a.labels-agree.ensures.answer ∙ not-false _ c.if4.false);
-      far = far-on (p * 8) (lent cs p) _ _ (omega arith) a.labels-agree.ensures.far;
+      answer = agree_asked p cs s.args.labels.now (known e.before.before) (are-listed e) (told-differ cs _ s.requires.thirds d.before.corners_differ.ensures ∙ d.if-not-corners_differ.false)
+          (sym a.labels_agree.ensures.answer ∙ c.if-not-labels_agree.false);
+      far = far-on (p * 8) (lent cs p) _ _ (omega arith) a.labels_agree.ensures.far;
     }
 
-pub before-rules-spec : {M : Type 1} → statement M
-before-rules-spec =
+pub before_rules_spec : {M : Type 1} → statement M
+before_rules_spec =
     tie.close
     (tie.spec
-    labels-known-requires
-    returns
-    corners-listed-requires
-    returns-2
-    corners-differ-requires
-    returns-3
-    labels-agree-requires
-    same_length
-    returns-4
-    same-length-2
-    returns-5)
+    labels_known-requires
+    returns-then-not-labels_known
+    corners_listed-requires
+    returns-then-not-corners_listed
+    corners_differ-requires
+    returns-then-not-corners_differ
+    labels_agree-requires
+    shape_of-work-then-not-labels_agree
+    returns-then-not-labels_agree
+    shape_of-work
+    returns)

@@ -12,81 +12,81 @@ use Rattle.questions.proofs.Marks.{Marks, marks-none, turn_stops, turn_on}
 use Rattle.questions.proofs.mark_labels.Statement.{statement}
 use Rattle.questions.proofs.mark_labels.Tie as tie
 
-abbrev invariant-loop : tie.invariant-loop
+abbrev invariant-loop : tie.invariant-loop-k
 invariant-loop corners labels points work₀ k₀ work k =
     (k ≤ length corners) × (length work ≡ length work₀) × (drop (points * 8) work ≡ drop (points * 8) work₀) × (Marks corners labels points work k)
 
-abbrev decreases-loop : tie.decreases-loop
+abbrev decreases-loop : tie.decreases-loop-k
 decreases-loop corners labels points work₀ k₀ work k = length corners - k
 
-loop-holds : tie.Need-loop-init invariant-loop decreases-loop
-loop-holds c = let s = c.before.before.before in (omega arith, refl, refl, marks-none _ _ _ _ s.requires.1)
+loop-k-init : tie.Need-loop-k-init invariant-loop decreases-loop
+loop-k-init c = let s = c.before.before.before in (omega arith, refl, refl, marks-none _ _ _ _ s.requires.1)
 
 -- the label and the corner at k
-abbrev start : tie.At-loop invariant-loop decreases-loop → tie.Start invariant-loop decreases-loop
+abbrev start : tie.At-loop-k invariant-loop decreases-loop → tie.Start invariant-loop decreases-loop
 start l = l.before.before.before.before
 
-in-labels : (c : tie.In-loop invariant-loop decreases-loop) → c.before.loop.k / 3 < length (start c.before).args.labels.now
-in-labels c = let g = (start c.before).pre.0.sized in omega (arith, g.thirds, g.labelled, c.loop-test.true)
+in-labels : (c : tie.In-loop-k invariant-loop decreases-loop) → c.before.loop-k.k / 3 < length (start c.before).args.labels.now
+in-labels c = let g = (start c.before).requires.0.sized in omega (arith, g.thirds, g.labelled, c.loop-k-test.true)
 
-known : (c : tie.In-loop invariant-loop decreases-loop) → at (start c.before).args.labels.now (c.before.loop.k / 3) < 8
-known c = let g = (start c.before).pre.0 in omega (arith, g.known (c.before.loop.k / 3) (in-labels c))
+known : (c : tie.In-loop-k invariant-loop decreases-loop) → at (start c.before).args.labels.now (c.before.loop-k.k / 3) < 8
+known c = let g = (start c.before).requires.0 in omega (arith, g.known (c.before.loop-k.k / 3) (in-labels c))
 
-below : (c : tie.In-loop invariant-loop decreases-loop) → at (start c.before).args.corners.now c.before.loop.k < (start c.before).args.points
-below c = (start c.before).pre.0.below c.before.loop.k c.loop-test.true
+below : (c : tie.In-loop-k invariant-loop decreases-loop) → at (start c.before).args.corners.now c.before.loop-k.k < (start c.before).args.points
+below c = (start c.before).requires.0.below c.before.loop-k.k c.loop-k-test.true
 
-record Here (c : tie.After-wide invariant-loop decreases-loop) : Type 0 where
-  label : c.before.before.wide-label.result < 8
-  corner : c.wide.result < (start c.before.before.before.before.before).args.points
+record Here (c : tie.After-wide-v invariant-loop decreases-loop) : Type 0 where
+  label : c.before.before.wide_label-l.result < 8
+  corner : c.wide-v.result < (start c.before.before.before.before.before).args.points
   few : (start c.before.before.before.before.before).args.points ≤ 32768
-  room : (start c.before.before.before.before.before).args.points * 8 ≤ length c.before.before.before.before.before.loop.work
+  room : (start c.before.before.before.before.before).args.points * 8 ≤ length c.before.before.before.before.before.loop-k.work
 
-here : (c : tie.After-wide invariant-loop decreases-loop) → Here c
+here : (c : tie.After-wide-v invariant-loop decreases-loop) → Here c
 here c =
     let i = c.before.before.before.before in
-    let g = (start i.before).pre.0.sized in
+    let g = (start i.before).requires.0.sized in
     record {
-      label = subst (λ (l : ℕ). l < 8) (sym c.before.before.wide-label.ensures) (known i);
-      corner = subst (λ (v : ℕ). v < (start i.before).args.points) (sym c.wide.ensures) (below i);
+      label = subst (λ (l : ℕ). l < 8) (sym c.before.before.wide_label-l.ensures) (known i);
+      corner = subst (λ (v : ℕ). v < (start i.before).args.points) (sym c.wide-v.ensures) (below i);
       few = g.points;
-      room = omega (arith, i.before.loop.invariant.1, g.room);
+      room = omega (arith, i.before.loop-k.invariant.1, g.room);
     }
 
-shared-slice-read-wide-label : tie.Need-shared-slice-read-wide-label invariant-loop decreases-loop
-shared-slice-read-wide-label c = in-labels c.before
+bounds-labels-k : tie.Need-bounds-labels-k invariant-loop decreases-loop
+bounds-labels-k c = in-labels c.before
 
-wide-label-requires : tie.Need-wide-label-requires invariant-loop decreases-loop
-wide-label-requires c κs = search rules
+wide_label-l-requires : tie.Need-wide_label-l-requires invariant-loop decreases-loop
+wide_label-l-requires c κs = search rules
 
-mul_wide : tie.Need-overflow-mul-wide invariant-loop decreases-loop
-mul_wide c = search rules
+offset_bounds-corners-k : tie.Need-offset_bounds-corners-k invariant-loop decreases-loop
+offset_bounds-corners-k c = search rules
 
-shared-slice-read-wide : tie.Need-shared-slice-read-wide invariant-loop decreases-loop
-shared-slice-read-wide c = search rules
+bounds-corners-k : tie.Need-bounds-corners-k invariant-loop decreases-loop
+bounds-corners-k c = search rules
 
-wide-requires : tie.Need-wide-requires invariant-loop decreases-loop
-wide-requires c κs = search rules
+wide-v-requires : tie.Need-wide-v-requires invariant-loop decreases-loop
+wide-v-requires c κs = search rules
 
-mul-other : tie.Need-overflow-mul-other invariant-loop decreases-loop
-mul-other c = let h = here c in omega arith
+overflow_mul-other : tie.Need-overflow_mul-other invariant-loop decreases-loop
+overflow_mul-other c = let h = here c in omega arith
 
 opposed-requires : tie.Need-opposed-requires invariant-loop decreases-loop
 opposed-requires c κs = let h = here c in h.label
 
-add-other : tie.Need-overflow-add-other invariant-loop decreases-loop
-add-other c = let h = here c.before in omega (arith, c.opposed.ensures)
+overflow_add-other : tie.Need-overflow_add-other invariant-loop decreases-loop
+overflow_add-other c = let h = here c.before in omega (arith, c.opposed.ensures)
 
-mul-other-2 : tie.Need-overflow-mul-other-2 invariant-loop decreases-loop
-mul-other-2 c = let h = here c.before in omega (arith, c.opposed.ensures)
+offset_bounds-work-v : tie.Need-offset_bounds-work-v invariant-loop decreases-loop
+offset_bounds-work-v c = let h = here c.before in omega (arith, c.opposed.ensures)
 
-slice-read-other : tie.Need-slice-read-other invariant-loop decreases-loop
-slice-read-other c = let h = here c.before.before in omega (arith, c.before.opposed.ensures)
+bounds-work-v : tie.Need-bounds-work-v invariant-loop decreases-loop
+bounds-work-v c = let h = here c.before.before in omega (arith, c.before.opposed.ensures)
 
-same_length : tie.Need-same-length invariant-loop decreases-loop
-same_length c = c.before.before.before.before.before.before.before.before.loop.invariant.1
+shape_of-work-then-other-eq1 : tie.Need-shape_of-work-then-other-eq1 invariant-loop decreases-loop
+shape_of-work-then-other-eq1 c = c.before.before.before.before.before.before.before.before.loop-k.invariant.1
 
-returns : tie.Need-returns invariant-loop decreases-loop
-returns c =
+returns-then-other-eq1 : tie.Need-returns-then-other-eq1 invariant-loop decreases-loop
+returns-then-other-eq1 c =
     let o = c.before.before in
     let w = o.before in
     let i = w.before.before.before.before in
@@ -94,79 +94,79 @@ returns c =
     let g = (start l).requires.0 in
     let cs = (start l).args.corners.now in
     let ls = (start l).args.labels.now in
-    let x = turn_stops cs ls (start l).args.points l.loop.work l.loop.k l.loop.invariant.3 (known i) (below i) w.wide.ensures w.before.before.wide-label.ensures o.opposed.ensures c.if1.true i.loop-test.true in
+    let x = turn_stops cs ls (start l).args.points l.loop-k.work l.loop-k.k l.loop-k.invariant.3 (known i) (below i) w.wide-v.ensures w.before.before.wide_label-l.ensures o.opposed.ensures c.if-other-eq1.true i.loop-k-test.true in
     let low : at ls (x.i / 3) < 8 = omega (arith, g.known (x.i / 3) (omega (arith, x.low_i, g.sized.thirds, g.sized.labelled))) in
-    record { answer = sym (some-opposed cs ls g.sized.thirds g.sized.labelled x low); far = l.loop.invariant.2 }
+    record { answer = sym (some-opposed cs ls g.sized.thirds g.sized.labelled x low); far = l.loop-k.invariant.2 }
 
-mul-work : tie.Need-overflow-mul-work invariant-loop decreases-loop
-mul-work c = let h = here c.before.before.before in omega arith
+overflow_mul-work : tie.Need-overflow_mul-work invariant-loop decreases-loop
+overflow_mul-work c = let h = here c.before.before.before in omega arith
 
-add-work : tie.Need-overflow-add-work invariant-loop decreases-loop
-add-work c = let h = here c.before.before.before in omega arith
+overflow_add-work : tie.Need-overflow_add-work invariant-loop decreases-loop
+overflow_add-work c = let h = here c.before.before.before in omega arith
 
-mul-work-2 : tie.Need-overflow-mul-work-2 invariant-loop decreases-loop
-mul-work-2 c = let h = here c.before.before.before in omega arith
+offset_bounds-work-v-in-loop-k : tie.Need-offset_bounds-work-v-in-loop-k invariant-loop decreases-loop
+offset_bounds-work-v-in-loop-k c = let h = here c.before.before.before in omega arith
 
-slice-write-work : tie.Need-slice-write-work invariant-loop decreases-loop
-slice-write-work c = let h = here c.before.before.before in omega arith
+bounds-work-v-in-loop-k : tie.Need-bounds-work-v-in-loop-k invariant-loop decreases-loop
+bounds-work-v-in-loop-k c = let h = here c.before.before.before in omega arith
 
-add-k : tie.Need-overflow-add-k invariant-loop decreases-loop
-add-k c = search rules
+overflow_add-k : tie.Need-overflow_add-k invariant-loop decreases-loop
+overflow_add-k c = search rules
 
-loop-less : tie.Need-loop-smaller invariant-loop decreases-loop
-loop-less c = search rules
+loop-k-smaller : tie.Need-loop-k-smaller invariant-loop decreases-loop
+loop-k-smaller c = search rules
 
-loop-again : tie.Need-loop-preserved invariant-loop decreases-loop
-loop-again c =
+loop-k-preserved : tie.Need-loop-k-preserved invariant-loop decreases-loop
+loop-k-preserved c =
     let o = c.before.before in
     let w = o.before in
     let i = w.before.before.before.before in
     let l = i.before in
     let p = (start l).args.points in
     let h = here w in
-    let at_slot : slot w.wide.result w.before.before.wide-label.result < p * 8 = omega arith in (
+    let at_slot : slot w.wide-v.result w.before.before.wide_label-l.result < p * 8 = omega arith in (
       search rules,
-      length-set l.loop.work _ 1 ∙ l.loop.invariant.1,
-      drop-set-lt (p * 8) l.loop.work _ 1 at_slot ∙ l.loop.invariant.2,
-      turn_on (start l).args.corners.now (start l).args.labels.now p l.loop.work l.loop.k l.loop.invariant.3 (known i) (below i) w.wide.ensures w.before.before.wide-label.ensures o.opposed.ensures h.room c.if1.false,
+      length-set l.loop-k.work _ 1 ∙ l.loop-k.invariant.1,
+      drop-set-lt (p * 8) l.loop-k.work _ 1 at_slot ∙ l.loop-k.invariant.2,
+      turn_on (start l).args.corners.now (start l).args.labels.now p l.loop-k.work l.loop-k.k l.loop-k.invariant.3 (known i) (below i) w.wide-v.ensures w.before.before.wide_label-l.ensures o.opposed.ensures h.room c.if-other-eq1.false,
     )
 
-same-length-2 : tie.Need-same-length-2 invariant-loop decreases-loop
-same-length-2 c = c.before.loop.invariant.1
+shape_of-work : tie.Need-shape_of-work invariant-loop decreases-loop
+shape_of-work c = c.before.loop-k.invariant.1
 
-returns-2 : tie.Need-returns-2 invariant-loop decreases-loop
-returns-2 c =
+returns : tie.Need-returns invariant-loop decreases-loop
+returns c =
     let l = c.before in
     let cs = (start l).args.corners.now in
     let ls = (start l).args.labels.now in
-    let e : l.loop.k ≡ length cs = omega arith in
-    record { answer = sym (none-opposed cs ls (λ x. l.loop.invariant.3.apart (subst (Clash cs ls) (sym e) x))); far = l.loop.invariant.2 }
+    let e : l.loop-k.k ≡ length cs = omega arith in
+    record { answer = sym (none-opposed cs ls (λ x. l.loop-k.invariant.3.apart (subst (Clash cs ls) (sym e) x))); far = l.loop-k.invariant.2 }
 
-pub mark-labels-spec : {M : Type 1} → statement M
-mark-labels-spec =
+pub mark_labels_spec : {M : Type 1} → statement M
+mark_labels_spec =
     tie.close
     (tie.spec
     invariant-loop
     decreases-loop
-    loop-holds
-    shared-slice-read-wide-label
-    wide-label-requires
-    mul_wide
-    shared-slice-read-wide
-    wide-requires
-    mul-other
+    loop-k-init
+    bounds-labels-k
+    wide_label-l-requires
+    offset_bounds-corners-k
+    bounds-corners-k
+    wide-v-requires
+    overflow_mul-other
     opposed-requires
-    add-other
-    mul-other-2
-    slice-read-other
-    same_length
-    returns
-    mul-work
-    add-work
-    mul-work-2
-    slice-write-work
-    add-k
-    loop-less
-    loop-again
-    same-length-2
-    returns-2)
+    overflow_add-other
+    offset_bounds-work-v
+    bounds-work-v
+    shape_of-work-then-other-eq1
+    returns-then-other-eq1
+    overflow_mul-work
+    overflow_add-work
+    offset_bounds-work-v-in-loop-k
+    bounds-work-v-in-loop-k
+    overflow_add-k
+    loop-k-smaller
+    loop-k-preserved
+    shape_of-work
+    returns)

@@ -9,172 +9,172 @@ use Rattle.vectors.proofs.Reading.{Got, got, part}
 use Rattle.replay_edit.proofs.run.Statement.{statement}
 use Rattle.replay_edit.proofs.run.Tie as tie
 
-abbrev start : tie.After-known-told → tie.Start
-start c = c.before.before.before.before.before.before.before.before.before.before.before.before.before.before.before.before.before
+abbrev start : tie.In-Is → tie.Start
+start c = c.before.before.before.before.before.before.before.before.before.before.before.before.before.before.before
 
-entries : (c : tie.After-known-told) → Got (start c).args.text.now (start c).args.k c.before.n.given.0.0 c.before.n.given.0.1.0 128 c.before.before.before.before.words.new.1.1.0
-entries c = got _ _ _ _ _ _ 128 _ _ _ c.before.before.before.before.words.ensures c.before.n.given.1 refl
+entries : (c : tie.In-Is) → Got (start c).args.text.now (start c).args.k c.before.in-Is.n c.before.in-Is.a 128 c.before.before.words.new.list
+entries c = got _ _ _ _ _ _ 128 _ _ _ c.before.before.words.ensures c.before.in-Is.is refl
 
 -- the words that are lent for verdicts, and for the journal
-verdict-words : (c : tie.Else1) → length (take c.before.word.result c.before.before.before.before.before.before.before.before.before.before.before.before.lend.new.0) ≡ c.before.word.result
+verdict-words : (c : tie.Else-v-gt64) → length (take c.before.word-v.result c.before.before.before.before.before.before.before.before.before.before.lend.new.list) ≡ c.before.word-v.result
 verdict-words c =
-    let m = c.before.before.before.before.before.before.before.before.before.before.before.before.lend.auto.0 in
-    let h : c.before.word.result ≤ length c.before.before.before.before.before.before.before.before.before.before.before.before.lend.new.0 = omega (arith, c.if1.false) in
+    let m = c.before.before.before.before.before.before.before.before.before.before.lend.auto.list in
+    let h : c.before.word-v.result ≤ length c.before.before.before.before.before.before.before.before.before.before.lend.new.list = omega (arith, c.if-v-gt64.false) in
     length-take-le _ _ h
 
-journal-words : (c : tie.Else2) → length (take c.before.word2.result c.before.before.before.before.before.before.before.before.before.before.before.lend2.new.0) ≡ c.before.word2.result
+journal-words : (c : tie.Else-j-gt512) → length (take c.before.word-j.result c.before.before.before.before.before.before.before.before.before.lend-2.new.list) ≡ c.before.word-j.result
 journal-words c =
-    let m = c.before.before.before.before.before.before.before.before.before.before.before.lend2.auto.0 in
-    let h : c.before.word2.result ≤ length c.before.before.before.before.before.before.before.before.before.before.before.lend2.new.0 = omega (arith, c.if2.false) in
+    let m = c.before.before.before.before.before.before.before.before.before.lend-2.auto.list in
+    let h : c.before.word-j.result ≤ length c.before.before.before.before.before.before.before.before.before.lend-2.new.list = omega (arith, c.if-j-gt512.false) in
     length-take-le _ _ h
 
-slice-aggregate-lend : tie.Need-slice-aggregate-lend
-slice-aggregate-lend c = search rules
+slice_bounds-lend-end : tie.Need-slice_bounds-lend-end
+slice_bounds-lend-end c = search rules
 
 lend-requires : tie.Need-lend-requires
 lend-requires c κs = search rules
 
-slice-aggregate-lend-2 : tie.Need-slice-aggregate-lend-2
-slice-aggregate-lend-2 c = search rules
+slice_bounds-lend-end-2 : tie.Need-slice_bounds-lend-end-2
+slice_bounds-lend-end-2 c = search rules
 
 lend-requires-2 : tie.Need-lend-requires-2
 lend-requires-2 c κs = search rules
 
-slice-aggregate-words : tie.Need-slice-aggregate-words
-slice-aggregate-words c = search rules
+slice_bounds-words-end : tie.Need-slice_bounds-words-end
+slice_bounds-words-end c = search rules
 
 words-requires : tie.Need-words-requires
 words-requires c κs = search rules
 
-enum-known-n : tie.Need-enum-known-n
-enum-known-n c = search rules
+enum_known-n : tie.Need-enum_known-n
+enum_known-n c = search rules
 
-enum_told : tie.Need-enum-told
-enum_told c = search rules
+enum_told-1 : tie.Need-enum_told-1
+enum_told-1 c = search rules
 
-returns : tie.Need-returns
-returns c = search rules
+returns-in_default : tie.Need-returns-in_default
+returns-in_default c = search rules
 
-word-requires : tie.Need-word-requires
-word-requires c κs = search rules
+word-v-requires : tie.Need-word-v-requires
+word-v-requires c κs = search rules
 
-cast-v : tie.Need-overflow-cast-v
-cast-v c = search rules
+overflow_cast-v : tie.Need-overflow_cast-v
+overflow_cast-v c = search rules
 
-returns-2 : tie.Need-returns-2
-returns-2 c = search rules
+returns-then-v-gt64 : tie.Need-returns-then-v-gt64
+returns-then-v-gt64 c = search rules
 
-add-word : tie.Need-overflow-add-word
-add-word c = let K = c.before.before in let g = entries K in omega (arith, g.inside, (start K).well-formed.0.0)
+overflow_add-a : tie.Need-overflow_add-a
+overflow_add-a c = let K = c.before.before in let g = entries K in omega (arith, g.inside, (start K).well_formed.0.0)
 
-word-requires-2 : tie.Need-word-requires-2
-word-requires-2 c κs = search rules
+word-j-requires : tie.Need-word-j-requires
+word-j-requires c κs = search rules
 
-cast-j : tie.Need-overflow-cast-j
-cast-j c = search rules
+overflow_cast-j : tie.Need-overflow_cast-j
+overflow_cast-j c = search rules
 
-returns-3 : tie.Need-returns-3
-returns-3 c = search rules
+returns-then-j-gt512 : tie.Need-returns-then-j-gt512
+returns-then-j-gt512 c = search rules
 
-add-next : tie.Need-overflow-add-next
-add-next c = let K = c.before.before.before.before in let g = entries K in omega (arith, g.inside, (start K).well-formed.0.0, (start K).requires, c.if2.false, c.before.before.if1.false)
+overflow_add-next : tie.Need-overflow_add-next
+overflow_add-next c = let K = c.before.before.before.before in let g = entries K in omega (arith, g.inside, (start K).well_formed.0.0, (start K).requires, c.if-j-gt512.false, c.before.before.if-v-gt64.false)
 
-add-next-2 : tie.Need-overflow-add-next-2
-add-next-2 c = let K = c.before.before.before.before in let g = entries K in omega (arith, g.inside, (start K).well-formed.0.0, (start K).requires, c.if2.false, c.before.before.if1.false)
+overflow_add-next-2 : tie.Need-overflow_add-next-2
+overflow_add-next-2 c = let K = c.before.before.before.before in let g = entries K in omega (arith, g.inside, (start K).well_formed.0.0, (start K).requires, c.if-j-gt512.false, c.before.before.if-v-gt64.false)
 
-add-next-3 : tie.Need-overflow-add-next-3
-add-next-3 c = let K = c.before.before.before.before in let g = entries K in omega (arith, g.inside, (start K).well-formed.0.0, (start K).requires, c.if2.false, c.before.before.if1.false)
+overflow_add-next-3 : tie.Need-overflow_add-next-3
+overflow_add-next-3 c = let K = c.before.before.before.before in let g = entries K in omega (arith, g.inside, (start K).well_formed.0.0, (start K).requires, c.if-j-gt512.false, c.before.before.if-v-gt64.false)
 
-add-next-4 : tie.Need-overflow-add-next-4
-add-next-4 c = let K = c.before.before.before.before in let g = entries K in omega (arith, g.inside, (start K).well-formed.0.0, (start K).requires, c.if2.false, c.before.before.if1.false)
+overflow_add-next-4 : tie.Need-overflow_add-next-4
+overflow_add-next-4 c = let K = c.before.before.before.before in let g = entries K in omega (arith, g.inside, (start K).well_formed.0.0, (start K).requires, c.if-j-gt512.false, c.before.before.if-v-gt64.false)
 
-add-next-5 : tie.Need-overflow-add-next-5
-add-next-5 c = let K = c.before.before.before.before in let g = entries K in omega (arith, g.inside, (start K).well-formed.0.0, (start K).requires, c.if2.false, c.before.before.if1.false)
+overflow_add-next-5 : tie.Need-overflow_add-next-5
+overflow_add-next-5 c = let K = c.before.before.before.before in let g = entries K in omega (arith, g.inside, (start K).well_formed.0.0, (start K).requires, c.if-j-gt512.false, c.before.before.if-v-gt64.false)
 
 count-requires : tie.Need-count-requires
 count-requires c κs = search rules
 
-returns-4 : tie.Need-returns-4
-returns-4 c = search rules
+returns-then-next-count : tie.Need-returns-then-next-count
+returns-then-next-count c = search rules
 
-add-agrees : tie.Need-overflow-add-agrees
-add-agrees c = search rules
+overflow_add-a-2 : tie.Need-overflow_add-a-2
+overflow_add-a-2 c = search rules
 
-array-share-prefix-entries : tie.Need-array-share-prefix-entries
-array-share-prefix-entries c = (entries c.before.before.before.before.before.before.before.before.before).fits
+slice_bounds-entries-end : tie.Need-slice_bounds-entries-end
+slice_bounds-entries-end c = (entries c.before.before.before.before.before.before.before.before.before).fits
 
-slice-aggregate-agrees : tie.Need-slice-aggregate-agrees
-slice-aggregate-agrees c = part (entries c.before.before.before.before.before.before.before.before.before.before)
+slice_bounds-agrees-end : tie.Need-slice_bounds-agrees-end
+slice_bounds-agrees-end c = part (entries c.before.before.before.before.before.before.before.before.before.before)
 
-array-borrow-prefix-verdicts : tie.Need-array-borrow-prefix-verdicts
-array-borrow-prefix-verdicts c = search rules
+slice_bounds-verdicts-end : tie.Need-slice_bounds-verdicts-end
+slice_bounds-verdicts-end c = search rules
 
-slice-aggregate-agrees-2 : tie.Need-slice-aggregate-agrees-2
-slice-aggregate-agrees-2 c = sym (verdict-words c.before.before.before.before.before.before.before.before.before)
+slice_bounds-agrees-end-2 : tie.Need-slice_bounds-agrees-end-2
+slice_bounds-agrees-end-2 c = sym (verdict-words c.before.before.before.before.before.before.before.before.before)
 
-array-borrow-prefix-journal : tie.Need-array-borrow-prefix-journal
-array-borrow-prefix-journal c = search rules
+slice_bounds-journal-end : tie.Need-slice_bounds-journal-end
+slice_bounds-journal-end c = search rules
 
-slice-aggregate-agrees-3 : tie.Need-slice-aggregate-agrees-3
-slice-aggregate-agrees-3 c = sym (journal-words c.before.before.before.before.before.before.before.before)
+slice_bounds-agrees-end-3 : tie.Need-slice_bounds-agrees-end-3
+slice_bounds-agrees-end-3 c = sym (journal-words c.before.before.before.before.before.before.before.before)
 
-agrees-requires : tie.Need-agrees-requires
-agrees-requires c κs =
+agrees-agreed-requires : tie.Need-agrees-agreed-requires
+agrees-agreed-requires c κs =
     let E = c.before.before.before.before.before.before in
     let K = E.before.before.before.before.before.before in
-    (omega (arith, E.if3.false, E.before.count.ensures, verdict-words E.before.before.before.before, journal-words E.before.before), (start K).requires.0, (start K).requires.1)
+    (omega (arith, E.if-next-count.false, E.before.count.ensures, verdict-words E.before.before.before.before, journal-words E.before.before), (start K).requires.0, (start K).requires.1)
 
-same_length : tie.Need-same-length
-same_length c = search rules
+shape_of-corners : tie.Need-shape_of-corners
+shape_of-corners c = search rules
 
-same-length-2 : tie.Need-same-length-2
-same-length-2 c = search rules
+shape_of-labels : tie.Need-shape_of-labels
+shape_of-labels c = search rules
 
-same-length-3 : tie.Need-same-length-3
-same-length-3 c = search rules
+shape_of-work : tie.Need-shape_of-work
+shape_of-work c = search rules
 
-returns-5 : tie.Need-returns-5
-returns-5 c =
+returns : tie.Need-returns
+returns c =
     let E = c.before.before.before.before.before.before.before.before.before.before.before.before.before.before.before in
     let g = entries E.before.before.before.before.before.before in
-    (omega (arith, g.onward), omega (arith, E.if3.false, E.before.count.ensures))
+    (omega (arith, g.onward), omega (arith, E.if-next-count.false, E.before.count.ensures))
 
 pub run_spec : {M : Type 1} → statement M
 run_spec =
     tie.close
     (tie.spec
-    slice-aggregate-lend
+    slice_bounds-lend-end
     lend-requires
-    slice-aggregate-lend-2
+    slice_bounds-lend-end-2
     lend-requires-2
-    slice-aggregate-words
+    slice_bounds-words-end
     words-requires
-    enum-known-n
-    enum_told
-    returns
-    word-requires
-    cast-v
-    returns-2
-    add-word
-    word-requires-2
-    cast-j
-    returns-3
-    add-next
-    add-next-2
-    add-next-3
-    add-next-4
-    add-next-5
+    enum_known-n
+    enum_told-1
+    returns-in_default
+    word-v-requires
+    overflow_cast-v
+    returns-then-v-gt64
+    overflow_add-a
+    word-j-requires
+    overflow_cast-j
+    returns-then-j-gt512
+    overflow_add-next
+    overflow_add-next-2
+    overflow_add-next-3
+    overflow_add-next-4
+    overflow_add-next-5
     count-requires
-    returns-4
-    add-agrees
-    array-share-prefix-entries
-    slice-aggregate-agrees
-    array-borrow-prefix-verdicts
-    slice-aggregate-agrees-2
-    array-borrow-prefix-journal
-    slice-aggregate-agrees-3
-    agrees-requires
-    same_length
-    same-length-2
-    same-length-3
-    returns-5)
+    returns-then-next-count
+    overflow_add-a-2
+    slice_bounds-entries-end
+    slice_bounds-agrees-end
+    slice_bounds-verdicts-end
+    slice_bounds-agrees-end-2
+    slice_bounds-journal-end
+    slice_bounds-agrees-end-3
+    agrees-agreed-requires
+    shape_of-corners
+    shape_of-labels
+    shape_of-work
+    returns)

@@ -1,0 +1,2 @@
+-- `Counts`: a count of what stands at a list's start.
+pub mod Counts

@@ -1,0 +1,15 @@
+-- `layers::level` meets its contract: the cast is exact, and so is the product with a power of two. Assumes nothing.
+use mathlib.Core.Path.{sym, subst}
+use lib.IntN.{ℤ}
+use lib.Ieee.{binary64, of_int, mul}
+use mir.Syntax.{w32}
+use mir.ValLaws.{to_z-of_z}
+use borrow.Author.Rules.{rules}
+use Rattle.rounding.specs.Fraction.{Is}
+use Rattle.layers.proofs.Plane.{unit, level_holds}
+use Rattle.layers.proofs.level.Goals as goal
+
+pub returns : goal.returns
+returns c =
+    let h = c.args.height in
+    subst (λ (z : ℤ). Is (mul binary64 (of_int binary64 z) unit) h 1024) (sym (to_z-of_z w32 h c.ranges.height)) (level_holds h c.requires).is

@@ -1,0 +1,22 @@
+-- `layers::note_kinds` meets its contract: a turn notes a point more. Assumes nothing.
+use Prim.Native.Nat.{ℕ, ◌+◌, ◌*◌, ◌-◌, ◌/◌, ◌≤◌}
+use mathlib.Core.Path.{◌≡◌, refl, ◌∙◌, subst}
+use mathlib.Core.List.{List}
+use native.Mathlib.Omega.{arith}
+use lib.ListN.{length, get_or, length-set}
+use lib.Ieee.{Float, nan, lt}
+use borrow.Author.Rules.{rules}
+use Rattle.layers.specs.Stages.{KindsNoted}
+use Rattle.layers.proofs.Traced.{noted-first, noted_turn, bit_one}
+use Rattle.layers.proofs.note_kinds.Given as goal
+
+pub record Noting (points : List Float) (level : Float) (base : ℕ) (w₀ w : List ℕ) (v : ℕ) : Type 0 where
+  pub low : v ≤ length points / 3
+  pub long : length w ≡ length w₀
+  pub noted : KindsNoted points level base w₀ w v
+
+abbrev pub invariant-loop-v : goal.invariant-loop-v
+invariant-loop-v l = Noting l.points l.level l.base l.initial.work l.work l.v
+
+abbrev pub decreases-loop-v : goal.decreases-loop-v
+decreases-loop-v l = length l.points / 3 - l.v

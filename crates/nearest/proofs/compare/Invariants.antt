@@ -1,0 +1,15 @@
+-- `nearest::compare` meets its contract: the corner is passed over, or meets each probe in turn (`proofs/Turns`). Assumes nothing.
+use Prim.Native.Nat.{◌-◌, ◌/◌}
+use mathlib.Core.Path.{◌≡◌}
+use lib.ListN.{length}
+use borrow.Author.Rules.{rules}
+use Rattle.checking.specs.Validate.{point_at}
+use Rattle.nearest.proofs.Turns.{Comparing, passed_over, none-met, corner-there, distance-there, one-met, all-met}
+use Rattle.nearest.proofs.Exact.{distance-holds}
+use Rattle.nearest.proofs.compare.Given as goal
+
+abbrev pub invariant-loop-i : goal.invariant-loop-i
+invariant-loop-i l = (l.p ≡ point_at l.points l.v) × (Comparing l.points l.work l.probes l.v l.initial.nearest l.initial.least l.nearest l.least l.i)
+
+abbrev pub decreases-loop-i : goal.decreases-loop-i
+decreases-loop-i l = length l.probes / 3 - l.i

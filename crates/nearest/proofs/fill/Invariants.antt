@@ -1,0 +1,18 @@
+-- `nearest::fill` meets its contract: after i turns the places below i are filled. Assumes nothing.
+use Prim.Native.Nat.{ℕ, ◌+◌, ◌-◌, ◌*◌, ◌≤◌, ◌<◌}
+use mathlib.Core.Path.{◌≡◌, refl, ◌∙◌, subst}
+use native.Mathlib.Omega.{arith}
+use lib.ListN.{length, get_or, set, length-set}
+use lib.Ieee.{nan}
+use borrow.Author.Rules.{rules, Below-set}
+use Rattle.halfedges.specs.Place.{at}
+use Rattle.nearest.specs.Stages.{OnSquares, FilledIn, shown}
+use Rattle.nearest.proofs.Places.{none-set, place_set}
+use Rattle.nearest.proofs.fill.Given as goal
+
+abbrev pub invariant-loop-i : goal.invariant-loop-i
+invariant-loop-i l =
+    (l.n ≤ length l.nearest) × (l.n ≤ length l.least) × (2 * l.n ≤ length l.initial.answers) × ((k : ℕ) → k < l.n → OnSquares (get_or l.least k nan)) × (l.i ≤ l.n) × (length l.answers ≡ length l.initial.answers) × (FilledIn l.i l.nearest l.least l.initial.answers l.answers)
+
+abbrev pub decreases-loop-i : goal.decreases-loop-i
+decreases-loop-i l = l.n - l.i

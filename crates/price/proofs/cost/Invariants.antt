@@ -1,0 +1,14 @@
+-- `price::cost` meets its contract. The invariant is `Walking`; the measure is what is left of the steps. Assumes nothing.
+use Prim.Native.Nat.{◌+◌, ◌-◌, ◌*◌, ◌≤◌}
+use native.Mathlib.Omega.{arith}
+use lib.ListN.{length, get_or}
+use borrow.Author.Rules.{rules}
+use Rattle.price.specs.Stages.{Costable}
+use Rattle.price.proofs.Walk.{product_fits, sum_fits, Walking, nothing_yet, cap, paid, forward, walked, ended}
+use Rattle.price.proofs.cost.Given as goal
+
+abbrev pub invariant-loop-k : goal.invariant-loop-k
+invariant-loop-k l = (Costable l.cubes l.uppers l.prices) × (Walking l.cubes l.uppers l.prices l.sum l.lower l.k)
+
+abbrev pub decreases-loop-k : goal.decreases-loop-k
+decreases-loop-k l = length l.uppers - l.k

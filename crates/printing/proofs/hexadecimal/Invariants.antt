@@ -1,0 +1,14 @@
+-- `printing::hexadecimal` meets its contract. The loop's invariant: the first `i` digits are written. Assumes nothing.
+use mathlib.Core.Path.{◌≡◌, refl, ◌∙◌}
+use Prim.Native.Nat.{◌-◌}
+use native.Mathlib.Omega.{arith}
+use lib.ListN.{length}
+use Rattle.writing.proofs.Puts.{reach}
+use Rattle.printing.proofs.Digits.{Row, row-start, row_more, row_end}
+use Rattle.printing.proofs.hexadecimal.Given as goal
+
+abbrev pub invariant-loop-i : goal.invariant-loop-i
+invariant-loop-i l = (length l.printed ≡ length l.initial.printed) × Row l.v l.i l.initial.printed l.printed l.at l.next
+
+abbrev pub decreases-loop-i : goal.decreases-loop-i
+decreases-loop-i l = 16 - l.i

@@ -1,0 +1,12 @@
+-- `vectors::clears` meets its contract. Assumes nothing.
+use borrow.Author.Tests.{lt-ltb, le-ltb}
+use Rattle.vectors.proofs.clears.Goals as goal
+
+pub returns-then-number-lt1 : goal.returns-then-number-lt1
+returns-then-number-lt1 c = simp (lt-ltb _ _ c.if-number-lt1.true)
+
+pub returns-then-number-gt3 : goal.returns-then-number-gt3
+returns-then-number-gt3 c = simp (le-ltb _ _ c.if-number-lt1.false, lt-ltb _ _ c.if-number-gt3.true)
+
+pub returns : goal.returns
+returns c = simp (le-ltb _ _ c.if-number-lt1.false, le-ltb _ _ c.if-number-gt3.false)

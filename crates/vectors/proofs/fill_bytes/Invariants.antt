@@ -1,0 +1,16 @@
+-- `vectors::fill_bytes` meets its contract. The loop's invariant: the first `i` places are stored, and the others as lent. Assumes nothing.
+use Prim.Native.Nat.{◌-◌}
+use native.Mathlib.Omega.{arith}
+use borrow.Author.Rules.{rules}
+use lib.ListN.{length, length-set}
+use Prim.Native.Nat.{ℕ, ◌%◌}
+use mathlib.Core.Path.{ap}
+use Rattle.vectors.specs.Words.{byte_at}
+use Rattle.vectors.proofs.Lists.{Filled, fill_none, fill_more, fill_all, by_one}
+use Rattle.vectors.proofs.fill_bytes.Given as goal
+
+abbrev pub invariant-loop-i : goal.invariant-loop-i
+invariant-loop-i l = Filled (byte_at l.text) 1 l.from l.i l.initial.list l.list
+
+abbrev pub decreases-loop-i : goal.decreases-loop-i
+decreases-loop-i l = length l.list - l.i

@@ -1,0 +1,27 @@
+-- `vectors::word` meets its contract. The loop's invariant: the value is what the first `i` digits spell. Assumes nothing.
+use Prim.Native.Nat.{◌-◌, ◌*◌, ◌^◌, ◌≤◌, ◌<◌}
+use mathlib.Core.Path.{◌≡◌, refl}
+use native.Mathlib.Omega.{arith}
+use Rattle.vectors.specs.Words.{spelled}
+use Rattle.vectors.proofs.Digits.{more, room, spelled-more, no_word, some_word}
+use Rattle.vectors.proofs.word.Goals as goal
+
+pub returns-then-k-text : goal.returns-then-k-text
+returns-then-k-text c = no_word _ _ c.if-k-text.true
+
+pub loop-i-init : goal.loop-i-init
+loop-i-init c = (omega arith, omega arith, refl)
+
+pub overflow_mul-value : goal.overflow_mul-value
+overflow_mul-value c = omega (arith, room c.loop-i.i c.loop-i.value c.loop-i.invariant.1 c.loop-i-test.true)
+
+pub overflow_add-value : goal.overflow_add-value
+overflow_add-value c = omega (arith, room c.loop-i.i c.loop-i.value c.loop-i.invariant.1 c.loop-i-test.true)
+
+pub loop-i-preserved : goal.loop-i-preserved
+loop-i-preserved c =
+    (omega arith, more c.loop-i.i c.loop-i.value c.digit.result c.loop-i.invariant.1 c.digit.ensures.1, spelled-more _ _ c.loop-i.i c.loop-i.value c.digit.result c.loop-i.invariant.2 c.digit.ensures.0)
+
+pub returns : goal.returns
+returns c =
+    some_word _ _ c.loop-i.value c.loop-i.i c.if-k-text.false c.loop-i.invariant.2 (omega arith)
