@@ -6,7 +6,7 @@ use mathlib.Core.List.{List}
 use native.Mathlib.Omega.{arith}
 use lib.ListN.{length}
 use lib.Ieee.{Float}
-use borrow.Author.Tests.{not_true, not-false}
+use borrow.Author.Tests.{not-true, not-false}
 use Rattle.halfedges.specs.Place.{at}
 use Rattle.chains.proofs.Chain.{spot}
 use Rattle.oracle.specs.Scene.{Scene, scene}
@@ -59,7 +59,7 @@ try_place-t-requires : tie.Need-try_place-t-requires invariant-loop decreases-lo
 try_place-t-requires c κs = let l = c.before in ((start l).requires.0, ((own c).1, (own c).0, (start l).requires.1.apart, omega (arith, (start l).requires.1.keep, (start l).requires.1.coords)))
 
 returns-then-not-t : tie.Need-returns-then-not-t invariant-loop decreases-loop
-returns-then-not-t c = let t = c.before.before in let i = t.before in let l = i.before in let z = c.if-not-t.true in subst (λ (b : Bool). Trials (Sc l) (Cs l) (Ls l) (start l).args.keep (start l).args.remove b t.try_place-t.result.least) (sym z) (trying_no (Sc l) (Cs l) (Ls l) (start l).args.heads (start l).args.work.now (start l).args.chains (start l).args.keep (start l).args.remove (length (start l).args.points.now) (start l).requires.1 l.loop-q.q (l.loop-q.q - 1) l.loop-q.least (k-is i) l.loop-q.invariant t.try_place-t.result.least (start l).requires.0.lists.thirds (start l).requires.0.labels (subst (λ (b : Bool). Tried (Sc l) (Cs l) (Ls l) (start l).args.keep (start l).args.remove (l.loop-q.q - 1) l.loop-q.least b t.try_place-t.result.least) z t.try_place-t.ensures))
+returns-then-not-t c = let t = c.before.before in let i = t.before in let l = i.before in let z = not-true c.try_place-t.result.valid c.if-not-t.true in subst (λ (b : Bool). Trials (Sc l) (Cs l) (Ls l) (start l).args.keep (start l).args.remove b t.try_place-t.result.least) (sym z) (trying_no (Sc l) (Cs l) (Ls l) (start l).args.heads (start l).args.work.now (start l).args.chains (start l).args.keep (start l).args.remove (length (start l).args.points.now) (start l).requires.1 l.loop-q.q (l.loop-q.q - 1) l.loop-q.least (k-is i) l.loop-q.invariant t.try_place-t.result.least (start l).requires.0.lists.thirds (start l).requires.0.labels (subst (λ (b : Bool). Tried (Sc l) (Cs l) (Ls l) (start l).args.keep (start l).args.remove (l.loop-q.q - 1) l.loop-q.least b t.try_place-t.result.least) z t.try_place-t.ensures))
 
 overflow_add-chains-in-loop-q : tie.Need-overflow_add-chains-in-loop-q invariant-loop decreases-loop
 overflow_add-chains-in-loop-q c = let i = c.before.before.before in let l = i.before in omega (arith, (start l).requires.1.room, start l)
@@ -74,7 +74,7 @@ loop-q-smaller : tie.Need-loop-q-smaller invariant-loop decreases-loop
 loop-q-smaller c = let i = c.before.before.before.before in let l = i.before in trying_less (Sc l) (Cs l) (Ls l) (start l).args.heads (start l).args.work.now (start l).args.chains (start l).args.keep (start l).args.remove (length (start l).args.points.now) (start l).requires.1 l.loop-q.q (l.loop-q.q - 1) l.loop-q.least (k-is i) l.loop-q.invariant c.word-q-in-loop-q.result c.word-q-in-loop-q.ensures
 
 loop-q-preserved : tie.Need-loop-q-preserved invariant-loop decreases-loop
-loop-q-preserved c = let t = c.before.before.before in let i = t.before in let l = i.before in let z = c.before.if-not-t.false in trying_next (Sc l) (Cs l) (Ls l) (start l).args.heads (start l).args.work.now (start l).args.chains (start l).args.keep (start l).args.remove (length (start l).args.points.now) (start l).requires.1 l.loop-q.q (l.loop-q.q - 1) l.loop-q.least (k-is i) l.loop-q.invariant c.word-q-in-loop-q.result t.try_place-t.result.least c.word-q-in-loop-q.ensures (subst (λ (b : Bool). Tried (Sc l) (Cs l) (Ls l) (start l).args.keep (start l).args.remove (l.loop-q.q - 1) l.loop-q.least b t.try_place-t.result.least) z t.try_place-t.ensures)
+loop-q-preserved c = let t = c.before.before.before in let i = t.before in let l = i.before in let z = not-false c.try_place-t.result.valid c.before.if-not-t.false in trying_next (Sc l) (Cs l) (Ls l) (start l).args.heads (start l).args.work.now (start l).args.chains (start l).args.keep (start l).args.remove (length (start l).args.points.now) (start l).requires.1 l.loop-q.q (l.loop-q.q - 1) l.loop-q.least (k-is i) l.loop-q.invariant c.word-q-in-loop-q.result t.try_place-t.result.least c.word-q-in-loop-q.ensures (subst (λ (b : Bool). Tried (Sc l) (Cs l) (Ls l) (start l).args.keep (start l).args.remove (l.loop-q.q - 1) l.loop-q.least b t.try_place-t.result.least) z t.try_place-t.ensures)
 
 returns : tie.Need-returns invariant-loop decreases-loop
 returns c = let l = c.before in let z : l.loop-q.q ≡ 0 = omega (arith, c.loop-q-test.false) in trying_yes (Sc l) (Cs l) (Ls l) (start l).args.heads (start l).args.work.now (start l).args.chains (start l).args.keep (start l).args.remove (length (start l).args.points.now) (start l).requires.1 l.loop-q.q l.loop-q.least (start l).requires.0.lists.thirds (start l).requires.0.labels z l.loop-q.invariant
