@@ -9,8 +9,8 @@ use mathlib.Core.List.{List, [], ◌∷◌, ◌++◌, Permᴰ}
 use lib.Dec.{eqb}
 use lib.ListN.{length}
 use borrow.Author.Tests.{eqb-true, eq-eqb, ne_eqb}
-use Rattle.surface.specs.Closed.{Step, step, one, Leads}
-use Rattle.halfedges.proofs.Steps.{tally, starts, froms, tos, In}
+use Rattle.surface.specs.Closed.{Step, one, Leads}
+use Rattle.halfedges.proofs.Steps.{tally, froms, tos, In}
 
 -- a sum over the steps, and with it their number, stays
 pub tally_perm : (f : Step → ℕ) {a b : List Step} → Permᴰ a b → tally f a ≡ tally f b

@@ -9,7 +9,7 @@ use mathlib.Core.List.{List, [], ◌∷◌, ◌++◌}
 use lib.Dec.{eqb}
 use lib.ListN.{length}
 use borrow.Author.Tests.{eqb-true, eq-eqb, ne_eqb}
-use Rattle.surface.specs.Closed.{Step, step, one, Leads, Ring}
+use Rattle.surface.specs.Closed.{Step, one, Leads, Ring}
 use Rattle.halfedges.specs.Place.{nx, pv, at, st, landed, trip, Steps}
 use Rattle.halfedges.proofs.Steps.{starts, froms, In, Place, pl, pl_in, pl_place}
 use Rattle.halfedges.proofs.Perms.{Apart, perm_of, cut, leads_cut, leads_join, in_perm, tally_perm, length_perm, tally-append, length_turn, in_left, in_right, in_either, none_from, apart_froms}

@@ -1,25 +1,21 @@
 -- What the functions of an entry promise, joined to the laws: an accepted entry leaves a good pair, and its record takes it back.
-use Prim.Native.Nat.{ℕ, suc, ◌+◌, ◌≤◌, ◌<◌}
+use Prim.Native.Nat.{ℕ, ◌≤◌, ◌<◌}
 use mathlib.Core.Path.{◌≡◌, refl, sym, ◌∙◌, ap, subst}
-use mathlib.Core.Logic.{◌⊎◌, inl, inr}
-use mathlib.Core.Bool.{Bool, true, cond}
+use mathlib.Core.Logic.{inl, inr}
+use mathlib.Core.Bool.{Bool, cond}
 use mathlib.Core.List.{List}
 use native.Mathlib.Omega.{arith}
 use lib.Dec.{eqb}
-use lib.ListN.{length, get_or, take}
-use lib.Seq.{length-take-le}
+use lib.ListN.{length, get_or}
 use Rattle.surface.specs.Closed.{Closed}
-use Rattle.surface.specs.Edit.{Hinge, hinge, without}
-use Rattle.surface.specs.Euler.{Below}
-use Rattle.surface.proofs.Hinged.{Hinged}
+use Rattle.surface.specs.Edit.{hinge, without}
 use Rattle.surface.proofs.Held.{length-held}
 use Rattle.surface.proofs.Laws.{hinge-found}
-use Rattle.history.specs.History.{Pair, Entry, covered, exists, label, made, words, flipped, collapsed}
-use Rattle.history.specs.Safe.{Sound}
+use Rattle.history.specs.History.{Pair, Entry, covered, exists, label, made, words, collapsed}
 use Rattle.history.specs.Flat.{pair_of, entry_of}
 use Rattle.history.specs.Local.{else, flip?, collapse?, flip_word, collapse_word, edit_word}
 use Rattle.history.specs.Undo.{undone}
-use Rattle.history.specs.Entry.{Good, Standing, Edited, Recorded, Undoable}
+use Rattle.history.specs.Entry.{Good, Standing, Edited, Recorded}
 use Rattle.history.proofs.Verdict.{exists-side, Edit, flips, collapses, edit_of}
 use Rattle.history.proofs.Local.{else-zero, holds, flip?_iff, collapse?_iff}
 use Rattle.surface.proofs.Labels.{skip, out_at, skip_fits}

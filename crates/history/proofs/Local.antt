@@ -1,28 +1,27 @@
 -- The verdict word 25, and the local tests that decide it.
-use Prim.Native.Nat.{ℕ, zero, suc, ◌+◌, ◌≤◌, ◌<◌}
-use mathlib.Core.Path.{◌≡◌, refl, sym, ◌∙◌, ap, subst}
+use Prim.Native.Nat.{ℕ, ◌<◌}
+use mathlib.Core.Path.{◌≡◌, refl, sym, ◌∙◌}
 use mathlib.Core.Logic.{◌⊎◌, inl, inr, ◌↔◌}
-use mathlib.Core.Bool.{Bool, true, false, not, ◌&&◌, ◌||◌, cond, true≢false, false≢true}
+use mathlib.Core.Bool.{Bool, true, false, not, ◌&&◌, ◌||◌, cond}
 use mathlib.Core.List.{List, [], ◌∷◌, Memᴰ}
 use native.Mathlib.Omega.{arith}
-use native.Mathlib.Decide.{ℕ_discrete}
-use lib.Dec.{eqb, leb, ltb}
+use lib.Dec.{eqb}
 use lib.ListN.{length}
 use borrow.Author.Tests.{eqb-true, eqb-false, eq-eqb, ne_eqb}
 use Rattle.surface.specs.Triangle.{Tri}
 use Rattle.surface.specs.Closed.{sides, Step, step, around, Closed}
 use Rattle.surface.specs.Edit.{Hinge, hinge, flip, collapse}
 use Rattle.surface.specs.Check.{closed?}
-use Rattle.surface.proofs.Bools.{true_false, both, join, or_first, or_second, not_true}
-use Rattle.surface.proofs.Reading.{Has, has-side, side-has}
+use Rattle.surface.proofs.Bools.{true_false, both, join, or_second, not_true}
+use Rattle.surface.proofs.Reading.{has-side, side-has}
 use Rattle.surface.proofs.Steps.{has-around, around-has}
 use Rattle.surface.proofs.Decision.{closed?_iff}
 use Rattle.surface.proofs.Laws.{flip-closed}
 use Rattle.surface.proofs.Counts.{collapse-closed-by-count}
 use Rattle.surface.specs.Check.{every}
-use Rattle.history.specs.History.{Pair, Entry, is_flip, covered, alike, exists, label, made, History, last, full, when, verdict}
+use Rattle.history.specs.History.{Pair, Entry, is_flip, covered, alike, exists, made, History, last, full, when, verdict}
 use Rattle.history.specs.Safe.{allowed}
-use Rattle.history.specs.Local.{else, flip?, apart?, no_common?, collapse?, flip_word, collapse_word, edit_word}
+use Rattle.history.specs.Local.{else, flip?, apart?, no_common?, collapse?, edit_word}
 use Rattle.history.proofs.Verdict.{exists-side, verdict-edit}
 
 pub same_bool : (p q : Bool) → (p ≡ true → q ≡ true) → (q ≡ true → p ≡ true) → p ≡ q

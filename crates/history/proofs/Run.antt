@@ -1,18 +1,14 @@
 -- What every pair of a history keeps of the first.
-use Prim.Native.Nat.{ℕ, zero, suc, ◌+◌, ◌≤◌, ◌<◌}
-use mathlib.Core.Path.{◌≡◌, refl, sym, ◌∙◌, ap, subst}
-use mathlib.Core.Bool.{true}
+use Prim.Native.Nat.{ℕ, zero, suc, ◌≤◌, ◌<◌}
+use mathlib.Core.Path.{◌≡◌, refl, sym, ◌∙◌, subst}
 use mathlib.Core.List.{List, [], ◌∷◌}
 use native.Mathlib.Omega.{arith}
-use lib.ListN.{length, drop, length-map, length-set, set}
+use lib.ListN.{length, drop, length-map, length-set}
 use Rattle.surface.specs.Triangle.{Tri}
-use Rattle.surface.specs.Closed.{sides, InUse, Closed}
-use Rattle.surface.specs.Edit.{Hinge, hinge, flip, collapse, without, renamed}
-use Rattle.surface.specs.Euler.{used, edges, Below, SameEuler}
-use Rattle.surface.proofs.Hinged.{Hinged}
+use Rattle.surface.specs.Edit.{hinge, flip, collapse, without}
+use Rattle.surface.specs.Euler.{Below, SameEuler}
 use Rattle.surface.proofs.Laws.{hinge-found, flip-corners, collapse-corners, flip-same-euler, collapse-same-euler}
-use Rattle.surface.specs.Label.{carries}
-use Rattle.history.specs.History.{Pair, Entry, made, flipped, collapsed, Made, last_of, History, last, in_force, next, after}
+use Rattle.history.specs.History.{Pair, Entry, made, Made, last_of, History, last, in_force, next, after}
 use Rattle.history.specs.Safe.{Sound, NoneGained}
 use Rattle.history.proofs.Verdict.{Edit, flips, collapses, Outcome, edited, returned, refused, outcome}
 use Rattle.surface.proofs.Places.{length_without}

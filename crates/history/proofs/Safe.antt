@@ -1,6 +1,6 @@
 -- Demand 3, of the history: what `Safe` says holds after every number of entries of every run.
-use Prim.Native.Nat.{ℕ, zero, suc, ◌≤◌, ◌<◌}
-use mathlib.Core.Path.{◌≡◌, refl, sym, ◌∙◌, ap, subst}
+use Prim.Native.Nat.{ℕ, zero, suc, ◌<◌}
+use mathlib.Core.Path.{◌≡◌, refl, sym, ◌∙◌, subst}
 use mathlib.Core.Logic.{◌⊎◌, inl, inr, ◌↔◌}
 use mathlib.Core.Bool.{Bool, true, false, ◌||◌, cond}
 use mathlib.Core.List.{List, [], ◌∷◌}
@@ -11,8 +11,8 @@ use borrow.Author.Tests.{eqb-true}
 use Rattle.surface.specs.Closed.{Closed}
 use Rattle.surface.proofs.Formula.{same-euler}
 use Rattle.history.specs.History.{Pair, Entry, is_edit, made, History, last, accepted, begun, next, after, verdict, verdicts}
-use Rattle.history.specs.Safe.{Sound, NoneGained, reached, entry_at, word_at, Safe}
-use Rattle.history.proofs.Verdict.{Edit, Outcome, edited, returned, refused, outcome}
+use Rattle.history.specs.Safe.{Sound, NoneGained, reached, entry_at, Safe}
+use Rattle.history.proofs.Verdict.{Outcome, edited, returned, refused, outcome}
 use Rattle.history.proofs.Labels.{no_new-label}
 use Rattle.history.proofs.Run.{Kept, kept-first, none, Stands, stands_last, after_stands}
 use Rattle.history.proofs.Local.{not_closed_25}

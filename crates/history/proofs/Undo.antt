@@ -1,8 +1,8 @@
 -- An accepted flip or collapse is taken back by its record's words.
-use Prim.Native.Nat.{ℕ, zero, suc, ◌+◌, ◌≤◌, ◌<◌}
-use mathlib.Core.Path.{◌≡◌, refl, sym, ◌∙◌, ap, subst}
+use Prim.Native.Nat.{ℕ, zero, suc, ◌<◌}
+use mathlib.Core.Path.{◌≡◌, refl, sym, ◌∙◌, ap}
 use mathlib.Core.Logic.{◌⊎◌, inl, inr, ◌≢◌}
-use mathlib.Core.Bool.{Bool, true, false, ◌&&◌, ◌||◌, cond}
+use mathlib.Core.Bool.{Bool, true, false, cond}
 use mathlib.Core.List.Memᴰ
 use mathlib.Core.List.Permᴰ
 use mathlib.Core.List.{List, [], ◌∷◌, map}
@@ -10,7 +10,7 @@ use native.Mathlib.Omega.{arith}
 use lib.Dec.{eqb}
 use lib.ListN.{length, get_or, set}
 use lib.Seq.{set-set, set_comm, set-get_or}
-use borrow.Author.Tests.{eqb-true, eqb-false, eq-eqb, ne_eqb}
+use borrow.Author.Tests.{eq-eqb, ne_eqb}
 use Rattle.surface.specs.Triangle.{Tri, tri}
 use Rattle.surface.specs.Closed.{sides, step, around, Closed}
 use Rattle.surface.specs.Edit.{Hinge, hinge, place, start_of, flip, without, renamed, collapse}
@@ -20,10 +20,10 @@ use Rattle.surface.specs.Laws.{FourDiffer}
 use Rattle.surface.proofs.FlipCore.{before, before-sides}
 use Rattle.surface.proofs.Rings.{mem_perm}
 use Rattle.surface.proofs.Steps.{around-has}
-use Rattle.surface.proofs.Places.{place-has, place-without}
+use Rattle.surface.proofs.Places.{place-has}
 use Rattle.surface.proofs.Hinged.{Hinged}
 use Rattle.surface.proofs.Bridge.{closed_surface_lem, in_use}
-use Rattle.surface.proofs.Edits.{left, as_before}
+use Rattle.surface.proofs.Edits.{as_before}
 use Rattle.surface.proofs.CollapseRings.{CollapseRing, collapse_ring}
 use Rattle.surface.proofs.Laws.{hinge-found, hinge-differ, collapse-corners}
 use Rattle.history.specs.History.{Pair, Entry, label, flipped, collapsed, words, made}

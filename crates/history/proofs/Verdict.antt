@@ -1,21 +1,21 @@
 -- What an entry does to a history, by its kind.
-use Prim.Native.Nat.{ℕ, zero, suc, ◌≤◌, ◌<◌}
+use Prim.Native.Nat.{ℕ, suc, ◌≤◌, ◌<◌}
 use mathlib.Core.Path.{◌≡◌, refl, sym, ◌∙◌, ap, subst}
 use mathlib.Core.Logic.{◌⊎◌, inl, inr}
-use mathlib.Core.Bool.{Bool, true, false, not, ◌&&◌, ◌||◌, cond, true≢false, false≢true}
+use mathlib.Core.Bool.{Bool, true, false, not, cond}
 use mathlib.Core.List.{List, [], ◌∷◌}
 use native.Mathlib.Omega.{arith}
 use native.Mathlib.Decide.{ℕ_discrete}
-use lib.Dec.{eqb, leb, ltb}
+use lib.Dec.{eqb, ltb}
 use lib.ListN.{length, drop}
 use borrow.Author.Tests.{eqb-true, eqb-false, eq-eqb, ne_eqb, ltb-true, ltb-false, leb-false, not-false}
 use Rattle.surface.specs.Triangle.{Tri}
 use Rattle.surface.specs.Closed.{sides, Closed}
-use Rattle.surface.specs.Edit.{Hinge, hinge, has, first, place, flip, collapse}
+use Rattle.surface.specs.Edit.{hinge, has, first, place}
 use Rattle.surface.specs.Check.{closed?}
 use Rattle.surface.proofs.Decision.{closed?_iff}
 use Rattle.surface.proofs.Laws.{side-exists}
-use Rattle.history.specs.History.{Pair, Entry, is_flip, exists, alike, label, covered, flipped, collapsed, words, made, Made, History, last, in_force, full, when, verdict, accepted, next}
+use Rattle.history.specs.History.{Pair, Entry, is_flip, exists, alike, label, covered, flipped, collapsed, words, made, History, last, in_force, full, when, verdict, accepted, next}
 use Rattle.history.specs.Safe.{allowed}
 pub use Rattle.history.specs.Accepted.{Edit, flips, collapses}
 

@@ -1,20 +1,18 @@
 -- The walk around the kept corner after a collapse meets the steps that were around the removed one.
 use Prim.Native.Nat.{ℕ, zero, suc, ◌+◌, ◌≤◌, ◌<◌}
-use mathlib.Core.Path.{◌≡◌, refl, sym, ◌∙◌, ap, subst}
-use mathlib.Core.Logic.{◌⊎◌, inl, inr}
-use mathlib.Core.Bool.{Bool, true, false, ◌&&◌, ◌||◌, cond, true≢false, false≢true}
+use mathlib.Core.Path.{◌≡◌, refl, sym, ◌∙◌, ap}
+use mathlib.Core.Bool.{true, false, ◌||◌}
 use mathlib.Core.List.Permᴰ
 use mathlib.Core.List.{List, [], ◌∷◌, ◌++◌, map, Memᴰ}
 use native.Mathlib.Omega.{arith}
 use native.Mathlib.Decide.{ℕ_discrete}
 use lib.Dec.{eqb}
 use lib.ListN.{length, length-append}
-use borrow.Author.Tests.{eqb-true, eqb-false, eq-eqb, ne_eqb}
+use borrow.Author.Tests.{eq-eqb, ne_eqb}
 use Rattle.surface.specs.Triangle.{Tri, tri}
 use Rattle.surface.specs.Closed.{sides, Step, step, around, Leads, Closed}
 use Rattle.surface.specs.Check.{next}
 use Rattle.surface.specs.Edit.{put, renamed}
-use Rattle.surface.proofs.Bools.{true_false}
 use Rattle.surface.proofs.Reading.{Has, here, there, spin, has-eq, r0}
 use Rattle.surface.proofs.Rings.{is_yes, is_no, froms, froms_cons, froms_perm, froms_append, mem_froms, mem_perm, length_perm}
 use Rattle.surface.proofs.Steps.{froms_around, has-around}

@@ -1,7 +1,7 @@
 -- An accepted edit of a pair of lists, whatever the journal has room for. Definitions only.
-use Rattle.std.specs.Prelude.{ℕ, ◌<◌, ◌≡◌, true}
+use Rattle.std.specs.Prelude.{◌<◌, ◌≡◌, true}
 use Rattle.surface.specs.Closed.{sides, Closed}
-use Rattle.surface.specs.Edit.{Hinge, hinge, flip, collapse}
+use Rattle.surface.specs.Edit.{hinge, flip, collapse}
 use Rattle.history.specs.History.{Pair, Entry, label, covered, flipped, collapsed, made}
 
 -- The side exists; a flip has one label on both sides, a collapse no label at b that a lacks; and the list made is closed.

@@ -1,8 +1,8 @@
 -- The history of an edit run, as document 01 ("Entry and journal") tells it: the pairs that it holds, and each entry's verdict word. Definitions only; they compute.
-use Rattle.std.specs.Prelude.{ℕ, Bool, true, false, not, ◌&&◌, ◌||◌, cond, List, [], ◌∷◌, eqb, leb, ltb, length, get_or, drop}
+use Rattle.std.specs.Prelude.{ℕ, Bool, not, ◌&&◌, ◌||◌, cond, List, [], ◌∷◌, eqb, leb, ltb, length, get_or, drop}
 use Rattle.surface.specs.Triangle.{Tri}
 use Rattle.surface.specs.Label.{carries}
-use Rattle.surface.specs.Edit.{Hinge, hinge, first, flip, collapse, without, place, start_of}
+use Rattle.surface.specs.Edit.{hinge, first, flip, collapse, without, place, start_of}
 use Rattle.surface.specs.Check.{every, closed?}
 
 -- a triangle list and a label list

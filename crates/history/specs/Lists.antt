@@ -1,7 +1,7 @@
 -- The lists that an edit run is lent, and what it leaves in them (document 01, "Entry and journal"). Definitions only; they compute.
-use Rattle.std.specs.Prelude.{ℕ, ◌+◌, ◌-◌, ◌/◌, List, [], ◌∷◌, ◌++◌, length, replicate}
+use Rattle.std.specs.Prelude.{ℕ, ◌-◌, ◌/◌, List, [], ◌∷◌, ◌++◌, length, replicate}
 use Rattle.surface.specs.Triangle.{triangles, corners}
-use Rattle.history.specs.History.{Pair, Entry, Made, History, last, begun, after, verdicts}
+use Rattle.history.specs.History.{Pair, Entry, Made, History, begun, after, verdicts}
 
 -- the pair lent
 abbrev pub lent_pair : List ℕ → List ℕ → Pair

@@ -1,6 +1,6 @@
 -- A way around a corner that a program can follow and mark. Definitions only.
 use Rattle.std.specs.Prelude.{ℕ, ◌≤◌, ◌≡◌, length}
-use mathlib.Core.List.{List, [], ◌∷◌, Memᴰ}
+use mathlib.Core.List.{List, Memᴰ}
 use Rattle.surface.specs.Triangle.{Tri}
 use Rattle.surface.specs.Closed.{sides, Step, around, Leads, Closed}
 use Rattle.surface.proofs.Rings.{froms}

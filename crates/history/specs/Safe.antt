@@ -1,5 +1,5 @@
 -- What holds after every number of entries of every run (document 01, demand 3), of the history alone. Definitions only.
-use Rattle.std.specs.Prelude.{ℕ, suc, ◌≤◌, ◌<◌, ◌≡◌, ◌↔◌, Bool, true, cond, List, [], ◌∷◌, length, get_or, take}
+use Rattle.std.specs.Prelude.{ℕ, suc, ◌≤◌, ◌<◌, ◌≡◌, ◌↔◌, Bool, true, cond, List, length, get_or, take}
 use Rattle.surface.specs.Closed.{Closed}
 use Rattle.surface.specs.Euler.{euler, Below}
 use Rattle.surface.specs.Label.{carries}

@@ -1,5 +1,5 @@
 -- Taking back a flip or a collapse, from the record's words and the pair that the edit made alone, as a program computes it. Definitions only.
-use Rattle.std.specs.Prelude.{ℕ, zero, suc, Bool, true, false, ◌&&◌, ◌||◌, cond, List, [], ◌∷◌, map, eqb, length, get_or, set}
+use Rattle.std.specs.Prelude.{ℕ, zero, suc, Bool, false, ◌&&◌, ◌||◌, cond, List, [], ◌∷◌, map, eqb, length, get_or, set}
 use Rattle.surface.specs.Triangle.{Tri, tri}
 use Rattle.surface.specs.Closed.{Step, around}
 use Rattle.surface.specs.Check.{next}

@@ -1,5 +1,5 @@
 -- The squared distance of points on whole units is exact in f64: differences up to 2 ^ 16 units, squares up to 2 ^ 32, their sum up to 3 * 2 ^ 32. It is cast to the whole number that it is. Assumes nothing.
-use Prim.Native.Nat.{ℕ, ◌+◌, ◌-◌, ◌*◌, ◌/◌, ◌^◌, ◌≤◌, ◌<◌}
+use Prim.Native.Nat.{ℕ, ◌+◌, ◌/◌, ◌^◌, ◌≤◌, ◌<◌}
 use mathlib.Core.Path.{◌≡◌, refl, sym, ◌∙◌, subst}
 use mathlib.Core.Bool.{false}
 use mathlib.Core.List.{List}

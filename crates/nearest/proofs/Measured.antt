@@ -1,5 +1,5 @@
 -- The stages of an answered call put together: corners in use are chained, the best of each probe is found and kept, and shown at its place. Assumes nothing.
-use Prim.Native.Nat.{ℕ, ◌+◌, ◌*◌, ◌/◌, ◌≤◌, ◌<◌}
+use Prim.Native.Nat.{ℕ, ◌*◌, ◌/◌, ◌≤◌, ◌<◌}
 use mathlib.Core.Path.{◌≡◌, refl, sym, ap, ap₂, ◌∙◌, subst, subst₂}
 use mathlib.Core.Bool.{Bool, false, cond}
 use mathlib.Core.List.{List, ◌++◌}
@@ -17,7 +17,7 @@ use Rattle.closing.proofs.Whole.{zeroed-used}
 use Rattle.rounding.specs.Fraction.{Is}
 use Rattle.rounding.proofs.Rounded.{is-wholes}
 use Rattle.units.specs.Units.{units_at}
-use Rattle.nearest.specs.Nearest.{apart, used?, Best, nobody, found, best, nearest_to, corner_of, distance_of, places, answered}
+use Rattle.nearest.specs.Nearest.{apart, used?, Best, nobody, found, best, nearest_to, corner_of, distance_of, answered}
 use Rattle.nearest.specs.Call.{Askable}
 use Rattle.nearest.specs.Stages.{has_head, best_of, far_of, BestKept, Laid, BestsKept, in_squares, OnSquares, shown, FilledIn, AllAnswered}
 use Rattle.nearest.proofs.Best.{Outcome, one, outcome, best-same}

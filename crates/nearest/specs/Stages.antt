@@ -1,5 +1,5 @@
 -- What the private functions are handed and what they leave. Definitions only.
-use Rattle.std.specs.Prelude.{ℕ, ◌+◌, ◌*◌, ◌/◌, ◌≤◌, ◌<◌, ◌≡◌, Bool, not, cond, List, ◌++◌, eqb, pos, nat_abs, length, get_or, drop, set, Float}
+use Rattle.std.specs.Prelude.{ℕ, ◌*◌, ◌/◌, ◌≤◌, ◌<◌, ◌≡◌, Bool, not, cond, List, ◌++◌, eqb, pos, nat_abs, length, get_or, drop, set, Float}
 use Rattle.std.specs.Float.{nan}
 use Rattle.std.specs.Float.Ieee.{le}
 use Rattle.halfedges.specs.Place.{at}

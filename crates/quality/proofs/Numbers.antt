@@ -4,7 +4,6 @@ use mathlib.Core.Bool.{Bool, true, false, not, ◌||◌, cond}
 use lib.Ieee.{Float, binary64, of_bits, of_int, le}
 use Rattle.float.specs.Order.{lesser, is_finite}
 use Rattle.quality.specs.Quality.{number, degenerate, least_with}
-use Rattle.quality.specs.declared.Rated.{Rated}
 use Rattle.quality.specs.declared.Rated.TheVariants.{Kept, Degenerate}
 
 pub zero_is : of_bits binary64 0 ≡ number 0

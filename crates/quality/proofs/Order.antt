@@ -13,7 +13,7 @@ use lib.Ieee.Exact.{HasValue, round_exact}
 use lib.Ieee.Fits.{up_pos, down_pos, and_l, and_r}
 use lib.Ieee.Digits.{back}
 use lib.Ieee.Order.{le_of_values, round_mono}
-use lib.Ieee.Positive.{positive, above, num, den, den_pos, own_value, positive_of_value, values_of_le, le→cross, above_of_le, mul_at}
+use lib.Ieee.Positive.{positive, num, den, den_pos, own_value, positive_of_value, values_of_le, le→cross, above_of_le, mul_at}
 use Rattle.float.specs.Root.{root, quanta}
 use Rattle.float.specs.Nearest.{NearestRoot}
 use Rattle.float.proofs.Nearest.{root_correct, root_mono, quanta-exact}

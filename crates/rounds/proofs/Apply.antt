@@ -1,17 +1,17 @@
 -- For the code: a step of the collapse pass from what the arrays hold before and after it.
-use Prim.Native.Nat.{ℕ, zero, suc, ◌+◌, ◌≤◌, ◌<◌}
-use mathlib.Core.Path.{◌≡◌, refl, sym, ◌∙◌, ap}
-use mathlib.Core.Bool.{Bool, true, false, ◌&&◌, ◌||◌, cond}
+use Prim.Native.Nat.{ℕ, ◌<◌}
+use mathlib.Core.Path.{◌≡◌, refl, sym, ◌∙◌}
+use mathlib.Core.Bool.{Bool, true, false, ◌||◌, cond}
 use mathlib.Core.List.{List, [], ◌∷◌, ◌++◌, map}
 use lib.ListN.{length, get_or, set}
 use lib.Seq.{ext_get_or}
 use native.Mathlib.Omega.{arith}
-use Rattle.surface.specs.Triangle.{Tri, tri, names}
+use Rattle.surface.specs.Triangle.{tri, names}
 use Rattle.surface.specs.Closed.{Closed}
 use Rattle.surface.specs.Edit.{has, place, hinge, renamed}
 use Rattle.surface.proofs.Bools.{true_false}
 use Rattle.history.specs.History.{Pair, Entry}
-use Rattle.rounds.specs.Pass.{near, marked, moved, State, Allowed, Applied, collapse_entry, Reached, begun, collapsed, result}
+use Rattle.rounds.specs.Pass.{near, marked, moved, State, Allowed, collapse_entry, Reached, collapsed}
 use Rattle.rounds.proofs.Elements.{moved-place, moved_length, marked-place, marked-length, near_none}
 use Rattle.rounds.proofs.Loops.{same_length, step-places, step-renames}
 

@@ -1,27 +1,27 @@
 -- The computed tests say what is allowed, and the passes as functions are passes.
-use Prim.Native.Nat.{ℕ, zero, suc, ◌+◌, ◌≤◌, ◌<◌}
+use Prim.Native.Nat.{ℕ, suc, ◌<◌}
 use mathlib.Core.Path.{◌≡◌, refl, sym, ◌∙◌, ap, subst}
 use mathlib.Core.Logic.{◌⊎◌, inl, inr}
 use mathlib.Core.Bool.{Bool, true, false, not, ◌&&◌, ◌||◌, cond, true≢false, false≢true}
-use mathlib.Core.List.{List, [], ◌∷◌, ◌++◌, map, append_assoc, Memᴰ}
+use mathlib.Core.List.{List, [], ◌∷◌, ◌++◌, append_assoc, Memᴰ}
 use native.Mathlib.Omega.{arith}
-use lib.Dec.{eqb, ltb}
+use lib.Dec.{eqb}
 use lib.ListN.{length}
 use borrow.Author.Tests.{eqb-true, eqb-false, ltb-true}
-use Rattle.surface.specs.Triangle.{Tri, tri, names, corners}
+use Rattle.surface.specs.Triangle.{Tri, names, corners}
 use Rattle.surface.specs.Closed.{sides, Closed}
 use Rattle.surface.specs.Edit.{has, first, place, hinge}
 use Rattle.surface.proofs.Bools.{both, join, not_true, or_none, true_false}
-use Rattle.surface.proofs.Reading.{Reads, turn, Has, here, there, spin, side-has}
+use Rattle.surface.proofs.Reading.{turn, Has, here, there, spin, side-has}
 use Rattle.surface.proofs.Surface.{Surface}
 use Rattle.surface.proofs.Bridge.{reads_name, closed_surface_lem}
 use Rattle.surface.proofs.Edits.{Filled, one_way, other_way, Linked}
 use Rattle.surface.proofs.Laws.{side-exists}
 use Rattle.surface.specs.Check.{every}
-use Rattle.history.specs.History.{Pair, Entry, covered, exists, label}
-use Rattle.rounds.specs.Pass.{near, State, Allowed, Applied, collapse_entry, Reached, begun, collapsed}
-use Rattle.rounds.specs.Flips.{FlipState, FlipAllowed, FlipApplied, flip_entry, FlipReached, flips-begun, flipped}
-use Rattle.rounds.specs.Choices.{common, filled, may_collapse, collapse_step, Decision, collapse_start, collapse_pass, collapses_of, may_flip, flip_step, Side, flip_start, flip_pass, flips_of}
+use Rattle.history.specs.History.{Pair, Entry, exists}
+use Rattle.rounds.specs.Pass.{near, State, Allowed, Applied, collapse_entry, Reached, collapsed}
+use Rattle.rounds.specs.Flips.{FlipState, FlipAllowed, FlipApplied, flip_entry, FlipReached, flipped}
+use Rattle.rounds.specs.Choices.{common, filled, may_collapse, collapse_step, Decision, collapse_pass, collapses_of, may_flip, flip_step, Side, flip_pass, flips_of}
 use Rattle.rounds.proofs.Near.{near_next}
 use Rattle.rounds.proofs.FirstUse.{has-corner}
 

@@ -1,30 +1,26 @@
 -- R1 and R2: a collapse changes nothing around a corner that is not near the side, and the collapse pass is a history of collapses.
-use Prim.Native.Nat.{ℕ, zero, suc, ◌+◌, ◌*◌, ◌≤◌, ◌<◌}
+use Prim.Native.Nat.{ℕ, suc, ◌+◌, ◌*◌, ◌≤◌, ◌<◌}
 use mathlib.Core.Path.{◌≡◌, refl, sym, ◌∙◌, ap, ap₂, subst, subst₂}
-use mathlib.Core.Logic.{◌⊎◌, inl, inr}
-use mathlib.Core.Bool.{Bool, true, false, ◌&&◌, ◌||◌, not, cond, true≢false, false≢true}
+use mathlib.Core.Bool.{Bool, true, false}
 use mathlib.Core.List.{List, [], ◌∷◌, ◌++◌, map}
 use native.Mathlib.Omega.{arith}
-use lib.Dec.{eqb, ltb}
 use lib.ListN.{length, length-append, length-map}
-use borrow.Author.Tests.{eqb-true, eq-eqb, lt-ltb}
-use Rattle.surface.specs.Triangle.{Tri, tri, names}
-use Rattle.surface.specs.Closed.{sides, Step, step, around, Closed}
-use Rattle.surface.specs.Check.{closed?}
-use Rattle.surface.specs.Edit.{has, first, hinge, without, renamed, collapse}
+use borrow.Author.Tests.{lt-ltb}
+use Rattle.surface.specs.Triangle.{Tri}
+use Rattle.surface.specs.Closed.{sides, around, Closed}
+use Rattle.surface.specs.Edit.{first, hinge, without, renamed, collapse}
 use Rattle.surface.proofs.Bools.{true_false}
-use Rattle.surface.proofs.Reading.{Has, side-has}
+use Rattle.surface.proofs.Reading.{side-has}
 use Rattle.surface.proofs.Surface.{Surface}
 use Rattle.surface.proofs.Hinged.{hinged}
 use Rattle.surface.proofs.Places.{length_without}
-use Rattle.surface.proofs.Edits.{Linked, collapse_law}
-use Rattle.surface.proofs.Bridge.{closed_surface_lem, surface_closed}
+use Rattle.surface.proofs.Bridge.{closed_surface_lem}
 use Rattle.surface.proofs.Decision.{closed?_iff}
 use Rattle.surface.specs.Euler.{Below, SameEuler}
 use Rattle.surface.proofs.Laws.{collapse-closed, collapse-corners, collapse-same-euler}
 use Rattle.rounds.proofs.EulerSteps.{euler_refl, euler_trans}
 use Rattle.surface.specs.Label.{carries}
-use Rattle.history.specs.History.{Pair, Entry, covered, exists, collapsed, made}
+use Rattle.history.specs.History.{Pair, Entry, collapsed}
 use Rattle.rounds.specs.Accepted.{Accepted}
 use Rattle.rounds.specs.Pass.{retain, near, marked, moved, State, Allowed, Applied, collapse_entry, Reached, begun, collapsed as further, result}
 use Rattle.rounds.proofs.Tests.{only, only-is, only_self}

@@ -1,29 +1,28 @@
 -- The computed tests pass exactly where the edit is allowed.
-use Prim.Native.Nat.{ℕ, zero, suc, ◌+◌, ◌≤◌, ◌<◌}
-use mathlib.Core.Path.{◌≡◌, refl, sym, ◌∙◌, ap}
+use Prim.Native.Nat.{ℕ, ◌<◌}
+use mathlib.Core.Path.{◌≡◌, refl, sym, ◌∙◌}
 use mathlib.Core.Logic.{◌↔◌, ◌⊎◌, inl, inr}
-use mathlib.Core.Bool.{Bool, true, false, not, ◌&&◌, ◌||◌, true≢false, false≢true}
+use mathlib.Core.Bool.{Bool, true, false, not, ◌&&◌, ◌||◌, false≢true}
 use mathlib.Core.List.{List, [], ◌∷◌}
 use native.Mathlib.Omega.{arith}
 use native.Mathlib.Decide.{ℕ_discrete}
-use lib.Dec.{eqb, ltb}
+use lib.Dec.{eqb}
 use lib.ListN.{length}
-use borrow.Author.Tests.{eqb-true, eq-eqb, lt-ltb}
-use Rattle.surface.specs.Triangle.{Tri, tri, names, corners}
+use borrow.Author.Tests.{eq-eqb, lt-ltb}
+use Rattle.surface.specs.Triangle.{Tri, names, corners}
 use Rattle.surface.specs.Closed.{sides, around, Closed}
-use Rattle.surface.specs.Edit.{first, Hinge, hinge}
-use Rattle.surface.proofs.Bools.{both, join, true_false}
-use Rattle.surface.proofs.Reading.{Reads, Has, here, there}
+use Rattle.surface.specs.Edit.{first, hinge}
+use Rattle.surface.proofs.Bools.{both, join}
+use Rattle.surface.proofs.Reading.{Reads, here, there}
 use Rattle.surface.proofs.Surface.{Surface}
 use Rattle.surface.specs.Laws.{FourDiffer}
-use Rattle.surface.proofs.Hinged.{Hinged, hinged}
+use Rattle.surface.proofs.Hinged.{hinged}
 use Rattle.surface.proofs.Bridge.{named_turn, closed_surface_lem}
 use Rattle.surface.proofs.Edits.{Filled, one_way, other_way, Linked}
 use Rattle.surface.proofs.Laws.{hinge-differ}
 use Rattle.surface.proofs.Counts.{tetrahedron-ends}
 use Rattle.surface.specs.Check.{every}
-use Rattle.surface.specs.Label.{carries}
-use Rattle.history.specs.History.{Pair, covered, exists, label}
+use Rattle.history.specs.History.{Pair, exists}
 use Rattle.rounds.specs.Pass.{near, State, Allowed}
 use Rattle.rounds.specs.Flips.{FlipState, FlipAllowed}
 use Rattle.rounds.specs.Choices.{common, filled, may_collapse, may_flip}

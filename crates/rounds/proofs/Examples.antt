@@ -1,19 +1,17 @@
 -- Two octahedra, 0 to 5 and 6 to 11: the passes and the round compute.
-use Prim.Native.Nat.{ℕ, zero, suc, ◌+◌}
+use Prim.Native.Nat.{ℕ}
 use mathlib.Core.Path.{◌≡◌, refl}
-use mathlib.Core.Bool.{Bool, true, false, not, ◌&&◌, ◌||◌, cond}
-use mathlib.Core.List.{List, [], ◌∷◌, ◌++◌, map}
-use lib.Dec.{eqb}
-use Rattle.surface.specs.Triangle.{Tri, tri, triangles, corners}
-use Rattle.surface.specs.Edit.{flip, collapse, first, without, hinge}
+use mathlib.Core.Bool.{true, false}
+use mathlib.Core.List.{List, [], ◌∷◌}
+use Rattle.surface.specs.Triangle.{Tri, tri, corners}
+use Rattle.surface.specs.Edit.{flip, collapse, first, hinge}
 use Rattle.surface.specs.Check.{closed?, leftover, unused, next as after, others}
 use Rattle.surface.specs.Closed.{sides, around}
 use Rattle.history.specs.History as History
 use Rattle.history.specs.History.{Pair, Entry, last, begun}
-use Rattle.rounds.specs.Pass.{retain, State, result}
-use Rattle.rounds.specs.Flips.{FlipState, flip_result}
-use Rattle.rounds.specs.Renumber.{number, first_use, met, meet, index, walk}
-use Rattle.rounds.specs.Choices.{common, Decision, Side, collapse_start, collapse_pass, collapses_of, flip_start, flip_pass, flips_of, dropped, by_first_use, flipped_all}
+use Rattle.rounds.specs.Pass.{retain}
+use Rattle.rounds.specs.Renumber.{index, walk}
+use Rattle.rounds.specs.Choices.{common, Decision, Side, collapse_start, collapse_pass, collapses_of, flip_start, flips_of, dropped}
 
 octahedra : List Tri
 octahedra =

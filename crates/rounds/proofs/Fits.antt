@@ -1,16 +1,14 @@
 -- The state of a collapse pass, triangle by triangle: what is not touched is as it was.
-use Prim.Native.Nat.{ℕ, zero, suc, ◌+◌, ◌<◌}
+use Prim.Native.Nat.{ℕ, zero, suc, ◌<◌}
 use mathlib.Core.Path.{◌≡◌, refl, sym, ◌∙◌, ap}
-use mathlib.Core.Logic.{◌⊎◌, inl, inr}
-use mathlib.Core.Bool.{Bool, true, false, ◌&&◌, ◌||◌, cond, true≢false, false≢true}
+use mathlib.Core.Bool.{Bool, true, false, ◌&&◌, cond}
 use mathlib.Core.List.{List, [], ◌∷◌, map}
-use lib.Dec.{eqb}
 use native.Mathlib.Omega.{arith}
 use lib.ListN.{length, get_or}
-use Rattle.surface.specs.Triangle.{Tri, tri, names}
-use Rattle.surface.specs.Closed.{Step, step, keep, around}
-use Rattle.surface.specs.Edit.{has, put, renamed, place}
-use Rattle.surface.proofs.Bools.{or_none, both, true_false}
+use Rattle.surface.specs.Triangle.{Tri, names}
+use Rattle.surface.specs.Closed.{around}
+use Rattle.surface.specs.Edit.{has, renamed, place}
+use Rattle.surface.proofs.Bools.{or_none, true_false}
 use Rattle.surface.specs.Label.{carries}
 use Rattle.rounds.specs.Pass.{retain, near, marked, moved}
 use Rattle.rounds.proofs.Tests.{and_second, around-off, carries-off, has-off, renamed-off, named-before, carries-none, has-names}

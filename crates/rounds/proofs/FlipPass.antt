@@ -1,19 +1,16 @@
 -- R3: a flip changes nothing around a corner that is none of its four, and the flip pass is a history of flips.
-use Prim.Native.Nat.{ℕ, zero, suc, ◌+◌, ◌≤◌, ◌<◌}
-use mathlib.Core.Path.{◌≡◌, refl, sym, ◌∙◌, ap, ap₂, subst, subst₂}
+use Prim.Native.Nat.{ℕ, ◌≤◌, ◌<◌}
+use mathlib.Core.Path.{◌≡◌, refl, sym, ◌∙◌, ap, subst}
 use mathlib.Core.Logic.{◌↔◌, ◌⊎◌, inl, inr}
-use mathlib.Core.Bool.{Bool, true, false, ◌&&◌, ◌||◌, not, cond, true≢false, false≢true}
-use mathlib.Core.List.{List, [], ◌∷◌, ◌++◌, map}
+use mathlib.Core.Bool.{Bool, false}
+use mathlib.Core.List.{List, [], ◌∷◌, ◌++◌}
 use native.Mathlib.Omega.{arith}
-use lib.Dec.{eqb, ltb}
-use lib.ListN.{length, set, length-append}
-use borrow.Author.Tests.{eqb-true, eq-eqb, ne_eqb, lt-ltb}
+use lib.ListN.{length, length-append}
+use borrow.Author.Tests.{eq-eqb, ne_eqb, lt-ltb}
 use Rattle.surface.specs.Triangle.{Tri, tri, names}
-use Rattle.surface.specs.Closed.{sides, Step, step, around, InUse, Closed}
-use Rattle.surface.specs.Check.{closed?}
-use Rattle.surface.specs.Edit.{has, first, place, Hinge, hinge, flip}
+use Rattle.surface.specs.Closed.{sides, around, InUse, Closed}
+use Rattle.surface.specs.Edit.{first, Hinge, hinge, flip}
 use Rattle.surface.proofs.Surface.{Surface}
-use Rattle.surface.proofs.Reading.{Reads}
 use Rattle.surface.proofs.Hinged.{Hinged, hinged}
 use Rattle.surface.proofs.Bridge.{closed_surface_lem, reads_names}
 use Rattle.surface.proofs.Decision.{closed?_iff}
@@ -21,7 +18,7 @@ use Rattle.surface.specs.Euler.{Below, SameEuler}
 use Rattle.surface.proofs.Laws.{flip-closed, flip-corners, flip-same-euler}
 use Rattle.rounds.proofs.EulerSteps.{euler_refl, euler_trans}
 use Rattle.surface.specs.Label.{carries}
-use Rattle.history.specs.History.{Pair, Entry, exists, made, label, flipped as flipped_pair}
+use Rattle.history.specs.History.{Pair, Entry, label}
 use Rattle.rounds.specs.Accepted.{Accepted}
 use Rattle.rounds.specs.Flips.{FlipState, FlipAllowed, flip_at, FlipApplied, flip_entry, FlipReached, flips-begun, flipped, flip_result}
 use Rattle.rounds.proofs.Local.{sides-from, sides-to}

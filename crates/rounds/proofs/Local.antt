@@ -1,18 +1,17 @@
 -- What the triangles around two corners, given in the same order, have in common: the sides, the readings, the hinge of the two, the labels.
-use Prim.Native.Nat.{ℕ, zero, suc, ◌+◌, ◌≤◌, ◌<◌}
+use Prim.Native.Nat.{ℕ, ◌<◌}
 use mathlib.Core.Path.{◌≡◌, refl, sym, ◌∙◌, ap, subst}
 use mathlib.Core.Logic.{◌⊎◌, inl, inr}
-use mathlib.Core.Bool.{Bool, true, false, ◌&&◌, ◌||◌, not, cond, true≢false, false≢true}
-use mathlib.Core.List.{List, [], ◌∷◌, map, Memᴰ}
+use mathlib.Core.Bool.{Bool, true, false, ◌&&◌, ◌||◌, not, false≢true}
+use mathlib.Core.List.{List, [], ◌∷◌, Memᴰ}
 use native.Mathlib.Omega.{arith}
 use lib.Dec.{eqb}
-use lib.ListN.{length}
 use borrow.Author.Tests.{eqb-true}
-use Rattle.surface.specs.Triangle.{Tri, tri, names}
+use Rattle.surface.specs.Triangle.{Tri, names}
 use Rattle.surface.specs.Closed.{sides, Step, step, around}
 use Rattle.surface.specs.Edit.{hinge}
-use Rattle.surface.proofs.Bools.{or_none, both, join, true_false}
-use Rattle.surface.proofs.Reading.{Has, spin, has-eq, has-side}
+use Rattle.surface.proofs.Bools.{both, join}
+use Rattle.surface.proofs.Reading.{Has, has-eq}
 use Rattle.surface.proofs.Rings.{froms, tos}
 use Rattle.surface.proofs.Steps.{froms_around, tos_around, has-around, around-has}
 use Rattle.surface.proofs.Surface.{Surface, next_of}

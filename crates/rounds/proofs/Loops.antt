@@ -1,34 +1,29 @@
 -- For the code's loops: what each loop's list is, one element further; and what a pass's state says of the untouched.
-use Prim.Native.Nat.{ℕ, zero, suc, ◌+◌, ◌*◌, ◌≤◌, ◌<◌}
-use mathlib.Core.Path.{◌≡◌, refl, sym, ◌∙◌, ap, subst}
-use mathlib.Core.Logic.{◌↔◌, ◌⊎◌, inl, inr}
-use mathlib.Core.Bool.{Bool, true, false, not, ◌&&◌, ◌||◌, cond, true≢false, false≢true}
+use Prim.Native.Nat.{ℕ, suc, ◌≤◌, ◌<◌}
+use mathlib.Core.Path.{◌≡◌, refl, ap}
+use mathlib.Core.Logic.{◌↔◌}
+use mathlib.Core.Bool.{Bool, true, false, not, ◌||◌, cond}
 use mathlib.Core.List.{List, [], ◌∷◌, ◌++◌, map}
 use native.Mathlib.Omega.{arith}
-use native.Mathlib.Decide.{ℕ_discrete}
-use lib.Dec.{eqb, ltb}
-use lib.ListN.{length, get_or, take, set, length-append, length-set}
-use borrow.Author.Tests.{eqb-true, eq-eqb, ne_eqb, lt-ltb, le-ltb}
-use Rattle.surface.specs.Triangle.{Tri, tri, names, corners}
-use Rattle.surface.specs.Closed.{sides, around, InUse, Closed}
+use lib.Dec.{eqb}
+use lib.ListN.{length, get_or, set}
+use borrow.Author.Tests.{ne_eqb, lt-ltb, le-ltb}
+use Rattle.surface.specs.Triangle.{Tri, names}
+use Rattle.surface.specs.Closed.{sides, around, Closed}
 use Rattle.surface.specs.Edit.{place, hinge, renamed}
-use Rattle.surface.specs.Euler.{Below, used}
-use Rattle.surface.proofs.Bools.{both, join, true_false}
-use Rattle.surface.proofs.Surface.{Surface}
 use Rattle.surface.proofs.Bridge.{closed_surface_lem}
-use Rattle.surface.proofs.Reading.{has-side, side-has}
-use Rattle.surface.specs.Check.{every}
+use Rattle.surface.proofs.Reading.{side-has}
 use Rattle.surface.specs.Label.{carries}
 use Rattle.history.specs.History.{Pair, Entry, covered}
-use Rattle.rounds.specs.Pass.{retain, near, marked, moved, State, Allowed, Applied, collapse_entry, Reached, begun, collapsed, result}
-use Rattle.rounds.specs.Flips.{FlipState, FlipAllowed, FlipReached, flip_result}
+use Rattle.rounds.specs.Pass.{retain, near, marked, moved, State, Reached, result}
+use Rattle.rounds.specs.Flips.{FlipState, FlipReached}
 use Rattle.rounds.specs.Renumber.{index, meet, met, walk}
 use Rattle.rounds.proofs.Fits.{Fits, fits-around, fits-carries, fits-place, moved_all}
-use Rattle.rounds.proofs.Stays.{Stays, stays-around, stays-carries, stays-place, stays-hinge}
+use Rattle.rounds.proofs.Stays.{stays-around, stays-place, stays-hinge}
 use Rattle.rounds.proofs.Marks.{marked-places}
 use Rattle.rounds.proofs.Local.{all_carried, all_of, implied, implies}
 use Rattle.rounds.proofs.Near.{near-side, near_next}
-use Rattle.rounds.proofs.FirstUse.{In, index_get, index-append, index-new, Meets, meets}
+use Rattle.rounds.proofs.FirstUse.{In, index-new}
 use Rattle.rounds.proofs.Collapses.{Kept, kept, fits-length}
 use Rattle.rounds.proofs.FlipPass.{FlipKept, flips-kept}
 

@@ -1,17 +1,16 @@
 -- R4: a renumbering that is one to one on the corners in use keeps a list closed, with its sides and labels.
-use Prim.Native.Nat.{ℕ, zero, suc, ◌+◌, ◌≤◌, ◌<◌}
+use Prim.Native.Nat.{ℕ, ◌≤◌, ◌<◌}
 use mathlib.Core.Path.{◌≡◌, refl, sym, ◌∙◌, ap, subst}
-use mathlib.Core.Logic.{◌⊎◌, inl, inr}
-use mathlib.Core.Bool.{Bool, true, false, ◌&&◌, ◌||◌, cond}
+use mathlib.Core.Logic.{inl, inr}
+use mathlib.Core.Bool.{Bool, true, false}
 use mathlib.Core.List.{List, [], ◌∷◌, map}
 use native.Mathlib.Omega.{arith}
 use native.Mathlib.Decide.{ℕ_discrete, dec_lt}
 use lib.Dec.{eqb}
-use lib.ListN.{length}
-use borrow.Author.Tests.{eqb-true, eq-eqb, ne_eqb}
-use Rattle.surface.specs.Triangle.{Tri, tri, names}
+use borrow.Author.Tests.{eq-eqb, ne_eqb}
+use Rattle.surface.specs.Triangle.{Tri}
 use Rattle.surface.specs.Closed.{sides, Step, step, keep, around, InUse, Closed}
-use Rattle.surface.proofs.Reading.{hit, Hit, same, first, second, view, hit_yes, hit_no, Reads, r0, r1, r2, Has, here, there, spin, has-eq, has-side, side-has, sides_cons}
+use Rattle.surface.proofs.Reading.{hit, Hit, same, first, second, view, hit_yes, hit_no, r0, r1, r2, Has, here, there, spin, has-eq, side-has, sides_cons}
 use Rattle.surface.proofs.Surface.{Reach, stop, go, reach_eq, Surface}
 use Rattle.surface.proofs.Bridge.{in_use, closed_surface_lem, surface_closed}
 use Rattle.surface.proofs.Euler.{use_has}

@@ -1,11 +1,10 @@
 -- R5: a round.
-use Prim.Native.Nat.{ℕ, zero, suc, ◌+◌, ◌*◌, ◌≤◌, ◌<◌}
-use mathlib.Core.Path.{◌≡◌, refl, sym, ◌∙◌, ap, subst}
+use Prim.Native.Nat.{ℕ, suc, ◌+◌, ◌<◌}
+use mathlib.Core.Path.{◌≡◌, refl, sym, ◌∙◌, ap}
 use mathlib.Core.Logic.{◌↔◌}
-use mathlib.Core.Bool.{Bool, true, false, ◌&&◌}
+use mathlib.Core.Bool.{Bool, true}
 use mathlib.Core.List.{List, [], ◌∷◌, ◌++◌}
 use native.Mathlib.Omega.{arith}
-use lib.Dec.{eqb}
 use lib.ListN.{length, length-map}
 use Rattle.surface.specs.Triangle.{Tri}
 use Rattle.surface.specs.Closed.{InUse, Closed}
@@ -14,15 +13,14 @@ use Rattle.surface.proofs.Laws.{closed-edges}
 use Rattle.surface.proofs.Bools.{join, both}
 use Rattle.surface.specs.Check.{every}
 use Rattle.history.specs.History.{Pair, Entry}
-use Rattle.rounds.specs.Accepted.{Accepted}
-use Rattle.rounds.specs.Pass.{retain, State, Reached, begun, collapsed, collapse_entry, result}
+use Rattle.rounds.specs.Pass.{State, Reached, begun, collapsed, collapse_entry, result}
 use Rattle.rounds.specs.Flips.{FlipState, FlipReached, flips-begun, flipped, flip_entry, flip_result}
 use Rattle.surface.specs.Renumber.{renumber, renumbered}
 use Rattle.rounds.specs.Renumber.{OneToOne, first_use, number}
 use Rattle.rounds.specs.Choices.{Decision, Side, collapse_start, collapse_pass, collapses_of, flip_start, flip_pass, flips_of, dropped, by_first_use, flipped_all, Plan, rounded, improved}
 use Rattle.rounds.specs.Round.{Only, numbered, Round, Rounds, no_more, one_more}
 use Rattle.rounds.proofs.Collapses.{retain-length, fits-length, Kept, kept}
-use Rattle.rounds.proofs.FlipPass.{FlipKept, flips-kept}
+use Rattle.rounds.proofs.FlipPass.{flips-kept}
 use Rattle.rounds.proofs.Stays.{Stays}
 use Rattle.rounds.proofs.Renumbered.{closed-number}
 use Rattle.rounds.proofs.Counting.{euler-number}

@@ -1,20 +1,17 @@
 -- The state of a flip pass, triangle by triangle: what is not touched is as it was, and so are the hinges of untouched sides.
-use Prim.Native.Nat.{ℕ, zero, suc, ◌+◌, ◌≤◌, ◌<◌}
+use Prim.Native.Nat.{ℕ, zero, suc, ◌+◌, ◌<◌}
 use mathlib.Core.Path.{◌≡◌, refl, sym, ◌∙◌, ap}
 use mathlib.Core.Logic.{◌⊎◌, inl, inr}
-use mathlib.Core.Bool.{Bool, true, false, ◌&&◌, ◌||◌, cond, true≢false, false≢true}
+use mathlib.Core.Bool.{Bool, true, false, cond}
 use mathlib.Core.List.{List, [], ◌∷◌}
-use native.Mathlib.Omega.{arith}
-use lib.Dec.{eqb}
-use lib.ListN.{length, get_or, set, drop}
-use borrow.Author.Tests.{ne_eqb}
-use Rattle.surface.specs.Triangle.{Tri, tri, names, runs}
+use lib.ListN.{set, drop}
+use Rattle.surface.specs.Triangle.{Tri, names, runs}
 use Rattle.surface.specs.Closed.{sides, around}
-use Rattle.surface.specs.Edit.{has, first, place, opposite, earlier, later, Hinge, hinge}
+use Rattle.surface.specs.Edit.{first, place, opposite, earlier, later, Hinge, hinge}
 use Rattle.surface.proofs.Bools.{true_false}
-use Rattle.surface.proofs.Reading.{Reads, turn}
+use Rattle.surface.proofs.Reading.{turn}
 use Rattle.surface.proofs.Surface.{Surface}
-use Rattle.surface.proofs.Bridge.{reads_name, reads_names}
+use Rattle.surface.proofs.Bridge.{reads_name}
 use Rattle.surface.proofs.Hinged.{Hinged, hinged}
 use Rattle.surface.specs.Label.{carries}
 use Rattle.rounds.proofs.Tests.{around-off, carries-off, has-off}

@@ -1,17 +1,14 @@
 -- Facts about the tests on one triangle, and about marks.
-use Prim.Native.Nat.{ℕ, zero, suc, ◌+◌, ◌<◌}
-use mathlib.Core.Path.{◌≡◌, refl, sym, ◌∙◌, ap}
-use mathlib.Core.Logic.{◌⊎◌, inl, inr}
-use mathlib.Core.Bool.{Bool, true, false, ◌&&◌, ◌||◌, not, cond, true≢false, false≢true}
-use mathlib.Core.List.{List, [], ◌∷◌, map}
+use Prim.Native.Nat.{ℕ}
+use mathlib.Core.Path.{◌≡◌, refl, ◌∙◌, ap}
+use mathlib.Core.Bool.{Bool, true, false, ◌&&◌, ◌||◌, not, true≢false, false≢true}
+use mathlib.Core.List.{List, [], ◌∷◌}
 use lib.Dec.{eqb}
-use lib.ListN.{length}
-use borrow.Author.Tests.{eqb-true, eqb-false, eq-eqb, ne_eqb}
-use Rattle.surface.specs.Triangle.{Tri, tri, names, runs}
-use Rattle.surface.specs.Closed.{Step, step, keep, around}
+use borrow.Author.Tests.{eqb-true, eq-eqb, ne_eqb}
+use Rattle.surface.specs.Triangle.{Tri, names, runs}
+use Rattle.surface.specs.Closed.{around}
 use Rattle.surface.specs.Edit.{has, put, renamed}
-use Rattle.surface.proofs.Bools.{or_none, both, true_false}
-use Rattle.surface.proofs.Rename.{put-at, put-off}
+use Rattle.surface.proofs.Bools.{or_none, true_false}
 use Rattle.surface.specs.Label.{carries}
 
 pub none3 : (p q r : Bool) → (p || (q || r)) ≡ false → (p ≡ false) × (q ≡ false) × (r ≡ false)

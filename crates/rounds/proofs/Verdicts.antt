@@ -1,14 +1,14 @@
 -- When a history accepts an edit, and what it holds then.
-use Prim.Native.Nat.{ℕ, zero, suc, ◌+◌, ◌≤◌, ◌<◌}
+use Prim.Native.Nat.{ℕ, ◌<◌}
 use mathlib.Core.Path.{◌≡◌, refl, sym, ◌∙◌, ap, subst}
 use mathlib.Core.Bool.{Bool, true, false, not, ◌&&◌, ◌||◌, cond, true≢false, false≢true}
 use mathlib.Core.List.{List, [], ◌∷◌, ◌++◌, map}
 use native.Mathlib.Omega.{arith}
-use lib.Dec.{eqb, leb, ltb}
+use lib.Dec.{eqb, ltb}
 use lib.ListN.{length, length-append}
 use borrow.Author.Tests.{lt-leb, eqb-true}
 use Rattle.surface.specs.Check.{closed?}
-use Rattle.history.specs.History.{Pair, Entry, is_flip, is_collapse, is_edit, is_back, exists, alike, covered, made, words, Made, History, last, in_force, begun, after, full, when, verdict, verdicts, next}
+use Rattle.history.specs.History.{Pair, Entry, is_flip, is_collapse, is_back, exists, alike, covered, made, words, History, last, in_force, begun, after, full, when, verdict, verdicts, next}
 use Rattle.history.specs.Safe.{allowed}
 use Rattle.rounds.specs.Accepted.{Accepted}
 

@@ -1,6 +1,6 @@
 -- The two passes as functions: the tests of the starting pair compute, and `choose` is whatever else decides. Definitions only.
-use Rattle.std.specs.Prelude.{ℕ, zero, suc, ◌+◌, ◌<◌, Bool, true, false, not, ◌&&◌, ◌||◌, cond, List, [], ◌∷◌, map, eqb}
-use Rattle.surface.specs.Triangle.{Tri, tri, corners, names}
+use Rattle.std.specs.Prelude.{ℕ, Bool, false, not, ◌&&◌, ◌||◌, cond, List, [], ◌∷◌, map, eqb}
+use Rattle.surface.specs.Triangle.{Tri, corners, names}
 use Rattle.surface.specs.Closed.{sides}
 use Rattle.surface.specs.Edit.{hinge}
 use Rattle.surface.specs.Check.{every}

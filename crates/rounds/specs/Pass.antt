@@ -1,6 +1,6 @@
 -- The collapse pass of a round: one list of triangles of full length, marks of the triangles that go, and the corners that are touched. Definitions only.
-use Rattle.std.specs.Prelude.{ℕ, zero, suc, ◌+◌, ◌<◌, ◌≡◌, Bool, true, false, ◌&&◌, ◌||◌, cond, List, [], ◌∷◌, ◌++◌, map, eqb, length}
-use Rattle.surface.specs.Triangle.{Tri, tri, names}
+use Rattle.std.specs.Prelude.{ℕ, ◌<◌, ◌≡◌, Bool, true, false, ◌&&◌, ◌||◌, cond, List, [], ◌∷◌, ◌++◌, map}
+use Rattle.surface.specs.Triangle.{Tri, names}
 use Rattle.surface.specs.Closed.{sides}
 use Rattle.surface.specs.Edit.{has, hinge, renamed}
 use Rattle.surface.proofs.Edits.{Linked}

@@ -1,7 +1,6 @@
 -- What a round is: the demand, as a record. Definitions only.
-use Rattle.std.specs.Prelude.{ℕ, zero, suc, ◌+◌, ◌*◌, ◌≤◌, ◌<◌, ◌≡◌, Bool, true, false, List, [], ◌∷◌, eqb, length}
-use Rattle.surface.specs.Triangle.{Tri}
-use Rattle.surface.specs.Closed.{InUse, Closed}
+use Rattle.std.specs.Prelude.{ℕ, ◌+◌, ◌*◌, ◌≤◌, ◌≡◌, true, List, eqb, length}
+use Rattle.surface.specs.Closed.{Closed}
 use Rattle.surface.specs.Euler.{Below, SameEuler}
 use Rattle.surface.specs.Check.{every}
 use Rattle.history.specs.History.{Pair, Entry}

@@ -7,10 +7,10 @@ use mathlib.Core.List.{List, ◌∷◌, Memᴰ, []}
 use native.Mathlib.Omega.{arith}
 use native.Mathlib.Decide.{dec_lt}
 use lib.Dec.{eqb}
-use lib.ListN.{length, get_or}
+use lib.ListN.{length}
 use borrow.Author.Tests.{eqb-true, eq-eqb}
 use Rattle.surface.specs.Triangle.{Tri, tri, names}
-use Rattle.surface.specs.Closed.{sides, Step, around, Ring, InUse, Differ, SameCorners, Differing, Paired, Ringed, Distinct, Closed}
+use Rattle.surface.specs.Closed.{sides, Step, around, InUse, Differ, SameCorners, Differing, Paired, Ringed, Distinct, Closed}
 use Rattle.surface.specs.Edit.{place, without}
 use Rattle.surface.proofs.Bools.{or_turn, or_flip, or_cases}
 use Rattle.surface.proofs.Reading.{hit_yes, sides_cons, Reads, r0, r1, r2, turn, reads_eq, Has, spin, side-has}

@@ -3,7 +3,7 @@ use Prim.Native.Nat.{ℕ, zero, suc, ◌+◌, ◌*◌, ◌≤◌, ◌<◌}
 use mathlib.Core.Path.{◌≡◌, refl, sym, ◌∙◌, ap}
 use mathlib.Core.List.{List, [], ◌∷◌}
 use native.Mathlib.Omega.{arith}
-use lib.ListN.{length, get_or, take, drop, set, length-set}
+use lib.ListN.{length, take, drop, set, length-set}
 use lib.Seq.{length-take-le, get_or-take, take-take, take-set-lt, take-set-le, drop-set-lt, drop-cons, drop-length}
 use Rattle.surface.specs.Triangle.{Tri, tri, triangles}
 use Rattle.surface.specs.Edit.{place}

@@ -1,5 +1,5 @@
 -- No flip and no collapse that the labels allow gives a corner a label that it lacked.
-use Prim.Native.Nat.{ℕ, zero, suc, ◌+◌, ◌≤◌, ◌<◌}
+use Prim.Native.Nat.{ℕ, zero, suc, ◌<◌}
 use mathlib.Core.Path.{◌≡◌, refl, sym, ◌∙◌, ap, subst}
 use mathlib.Core.Logic.{◌⊎◌, inl, inr}
 use mathlib.Core.Bool.{Bool, true, false, ◌&&◌, ◌||◌, false≢true}
@@ -15,7 +15,7 @@ use Rattle.surface.specs.Closed.{sides, Closed}
 use Rattle.surface.specs.Edit.{Hinge, hinge, flip, collapse, without, renamed, put, place}
 use Rattle.surface.specs.Label.{carries, LikeLabels, Covers, collapsed_labels, NoNewLabel}
 use Rattle.surface.proofs.Bools.{both, or_cases}
-use Rattle.surface.proofs.Reading.{Reads, turn, r0, r1, r2}
+use Rattle.surface.proofs.Reading.{turn, r0, r1, r2}
 use Rattle.surface.proofs.Rename.{put-at, put-off}
 use Rattle.surface.proofs.Places.{length_without}
 use Rattle.surface.proofs.Hinged.{Hinged, hinged}

@@ -1,15 +1,14 @@
 -- The theorem of page twelve: neither the order of the triangles nor the corner at which each turn begins affects whether (b), (c), (d), or all four rules hold.
-use Prim.Native.Nat.{ℕ, zero, suc, ◌≤◌, ◌<◌}
+use Prim.Native.Nat.{ℕ, zero, suc, ◌<◌}
 use mathlib.Core.Path.{◌≡◌, refl, sym, ◌∙◌, subst}
-use mathlib.Core.Logic.{◌↔◌}
 use mathlib.Core.List.Permᴰ
 use mathlib.Core.List.{List, [], ◌∷◌, Memᴰ, Permᴰ}
 use native.Mathlib.Omega.{arith}
 use lib.ListN.{length}
-use Rattle.surface.specs.Triangle.{Tri, tri, names}
-use Rattle.surface.specs.Closed.{sides, around, Ring, InUse, SameCorners, Paired, Ringed, Distinct, Closed}
+use Rattle.surface.specs.Triangle.{Tri, names}
+use Rattle.surface.specs.Closed.{SameCorners, Paired, Ringed, Distinct}
 use Rattle.surface.specs.Edit.{place}
-use Rattle.surface.specs.PageTwelve.{turned, Turns, first, second, third, EachTurns, none, more, Relisted, PageTwelve}
+use Rattle.surface.specs.PageTwelve.{Turns, first, second, third, EachTurns, none, more, Relisted, PageTwelve}
 use Rattle.surface.proofs.Reading.{Reads, r0, r1, r2}
 use Rattle.surface.proofs.Rings.{length_perm}
 use Rattle.surface.proofs.Surface.{Alike, alike_refl, alike_sym, alike_trans, alike_cons, alike_perm, alike_turn, surface_alike}

@@ -1,6 +1,6 @@
 -- When a list of triangles is closed: document 01's rules (a) to (d), each on its own, and all four together. Definitions only.
 -- `Check` has the same as a test that computes.
-use Rattle.std.specs.Prelude.{ℕ, zero, suc, ◌+◌, ◌<◌, ◌≡◌, Bool, true, false, ◌&&◌, eqb, length, get_or}
+use Rattle.std.specs.Prelude.{ℕ, ◌+◌, ◌<◌, ◌≡◌, Bool, true, false, ◌&&◌, eqb, length, get_or}
 use mathlib.Core.List.{List, [], ◌∷◌, Permᴰ}
 use Rattle.surface.specs.Triangle.{Tri, tri, names}
 

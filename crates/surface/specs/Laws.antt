@@ -2,7 +2,7 @@
 -- for each "if and only if", a list on each side. Throughout, c and d are the corners opposite to the side, p1 and p2 its two triangles, as `hinge` finds them.
 use Rattle.std.specs.Prelude.{ℕ, ◌*◌, ◌<◌, ◌≡◌, ◌↔◌, ◌⊎◌, true, List, length}
 use Rattle.surface.specs.Triangle.{Tri, tri}
-use Rattle.surface.specs.Closed.{sides, around, InUse, SameCorners, Differing, Paired, Ringed, Distinct, Closed}
+use Rattle.surface.specs.Closed.{around, InUse, SameCorners, Differing, Paired, Ringed, Distinct, Closed}
 use Rattle.surface.specs.PageTwelve.{Turns}
 use Rattle.surface.specs.Edit.{has, place, hinge, flip, collapse}
 use Rattle.surface.specs.Label.{LikeLabels, Covers, collapsed_labels, NoNewLabel}

@@ -1,5 +1,5 @@
 -- Laws of digits, of words and of the numbers that two words are. Assumes nothing.
-use Prim.Native.Nat.{ℕ, zero, suc, ◌+◌, ◌*◌, ◌%◌, ◌^◌, ◌≤◌, ◌<◌}
+use Prim.Native.Nat.{ℕ, ◌+◌, ◌*◌, ◌%◌, ◌^◌, ◌≤◌, ◌<◌}
 use mathlib.Core.Path.{◌≡◌, refl, sym, ap, ap₂, ◌∙◌, subst}
 use mathlib.Core.Bool.{Bool, true, false, not, cond, true≢false, false≢true}
 use mathlib.Core.Logic.{◌↔◌}
@@ -11,7 +11,7 @@ use lib.Pow.{pow-add, pow_mono}
 use lib.ListN.{get_or}
 use lib.Ieee.{Float, nan, inf, fin, binary64, of_bits, to_bits, nan_bits, is_nan, fits, div, ne}
 use lib.Ieee.Bits.{nan_bits_above, nan_bits_is, of_bits-to_bits}
-use lib.Ieee.Compare.{differs_from_itself, nan_differs}
+use lib.Ieee.Compare.{differs_from_itself}
 use borrow.Author.Tests.{lt-ltb, le-ltb, eqb-true, eq-eqb}
 use Rattle.vectors.specs.Words.{digit_of, spelled, count_of, word_at, joined, float_at}
 

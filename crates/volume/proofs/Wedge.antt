@@ -1,6 +1,6 @@
 -- The determinant that `wedge` divides by six is exact: the points of a list on whole units, measured from its first, have differences up to 2 ^ 16 units, cross products up to 2 ^ 33 and determinants up to 3 * 2 ^ 49. Assumes nothing.
 use mathlib.Core.List.{List}
-use Prim.Native.Nat.{ℕ, ◌*◌, ◌/◌, ◌<◌}
+use Prim.Native.Nat.{ℕ, ◌/◌, ◌<◌}
 use native.Mathlib.Omega.{arith}
 use lib.IntN.{ℤ, ◌-ℤ◌, ◌*ℤ◌}
 use lib.ListN.{length}

@@ -1,7 +1,7 @@
 -- The parts of a sheet's text, as they are written. Assumes nothing.
 use mathlib.Core.Path.{◌≡◌, sym, ap, ◌∙◌, subst}
 use mathlib.Core.Bool.{true, false, not}
-use mathlib.Core.List.{List, [], ◌∷◌, ◌++◌, append_assoc, append_nil}
+use mathlib.Core.List.{List, [], ◌∷◌, ◌++◌, append_assoc, append-nil}
 use Prim.Native.Nat.{ℕ, ◌+◌, ◌*◌, ◌/◌, ◌%◌, ◌≤◌, ◌<◌, ◌^◌}
 use native.Mathlib.Nat.{suc-mul}
 use native.Mathlib.Numerals.{add-one}
@@ -54,7 +54,7 @@ triangle_put t a b c d = said_as (triangle_line t) 44 (simp append_assoc) (omega
 pub line-more : {A : Type 0} (w : A → List ℕ) (f : ℕ → A) {k m c : ℕ} {l l₁ l₂ : List ℕ} {at i next : ℕ} → m ≡ k * c → Put (lines w (each f k)) m l l₁ at i → Put (w (f k)) c l₁ l₂ i next → Put (lines w (each f (k + 1))) ((k + 1) * c) l l₂ at next
 line-more w f {k} {m} {c} h p q =
     said_as (lines w (each f (k + 1))) ((k + 1) * c)
-    (ap (λ (t : List ℕ). lines w (each f k) ++ t) (sym (append_nil (w (f k)))) ∙ sym (lines-append w (each f k) (f k ∷ [])) ∙ ap (λ (n : ℕ). lines w (each f n)) (sym (add-one k)))
+    (ap (λ (t : List ℕ). lines w (each f k) ++ t) (sym (append-nil (w (f k)))) ∙ sym (lines-append w (each f k) (f k ∷ [])) ∙ ap (λ (n : ℕ). lines w (each f n)) (sym (add-one k)))
     (grows k m c h)
     (both p q)
   where

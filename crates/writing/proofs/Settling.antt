@@ -1,10 +1,10 @@
 -- What comes of a text: 38, 35, or how long it is. Assumes nothing.
 use mathlib.Core.Path.{◌≡◌, refl, sym, ap, ◌∙◌}
-use mathlib.Core.Bool.{Bool, true, false, not, ◌&&◌, cond}
+use mathlib.Core.Bool.{Bool, true, false, ◌&&◌, cond}
 use mathlib.Core.List.{List, ◌++◌}
-use Prim.Native.Nat.{ℕ, ◌+◌, ◌-◌, ◌≤◌}
+use Prim.Native.Nat.{ℕ, ◌-◌, ◌≤◌, ◌<◌}
 use native.Mathlib.Omega.{arith}
-use borrow.Author.Tests.{leb-true, not_true, not-false}
+use borrow.Author.Tests.{leb-true, le-leb, lt-leb}
 use lib.Dec.{leb}
 use lib.ListN.{length, replicate, length-append, length-replicate}
 use lib.Seq.{length-sets}
@@ -17,23 +17,22 @@ use Rattle.writing.proofs.Puts.{room}
 -- ---- the three ends of `settled`
 
 module _ (exact : Bool) (count : ℕ) (l l' : List ℕ) where
-  pub not_exact : not exact ≡ true → l' ≡ replicate (length l) 0 → SettledText exact count l l' (Refused 38)
+  pub not_exact : exact ≡ false → l' ≡ replicate (length l) 0 → SettledText exact count l l' (Refused 38)
   not_exact e z =
-      let f = not_true exact e in
-      record { answered = sym (ap (λ (b : Bool). settled_as b (leb count (length l)) count) f); bytes = z ∙ sym (ap (λ (b : Bool). cond (b && leb count (length l)) l (replicate (length l) 0)) f) }
+      record { answered = sym (ap (λ (b : Bool). settled_as b (leb count (length l)) count) e); bytes = z ∙ sym (ap (λ (b : Bool). cond (b && leb count (length l)) l (replicate (length l) 0)) e) }
 
-  module _ (e : not exact ≡ false) where
+  module _ (e : exact ≡ true) where
     fits : (b : Bool) → leb count (length l) ≡ b → exact && leb count (length l) ≡ b
-    fits b g = ap (λ (a : Bool). a && leb count (length l)) (not-false exact e) ∙ g
+    fits b g = ap (λ (a : Bool). a && leb count (length l)) e ∙ g
 
     says : (b : Bool) → leb count (length l) ≡ b → settled_as exact (leb count (length l)) count ≡ cond b (Is count) (Refused 35)
-    says b g = ap (λ (a : Bool). settled_as a (leb count (length l)) count) (not-false exact e) ∙ ap (λ (a : Bool). settled_as true a count) g
+    says b g = ap (λ (a : Bool). settled_as a (leb count (length l)) count) e ∙ ap (λ (a : Bool). settled_as true a count) g
 
-    pub no_room : not (leb count (length l)) ≡ true → l' ≡ replicate (length l) 0 → SettledText exact count l l' (Refused 35)
-    no_room g z = let f = not_true (leb count (length l)) g in record { answered = sym (says false f); bytes = z ∙ sym (ap (λ (b : Bool). cond b l (replicate (length l) 0)) (fits false f)) }
+    pub no_room : length l < count → l' ≡ replicate (length l) 0 → SettledText exact count l l' (Refused 35)
+    no_room h z = let g = lt-leb count (length l) h in record { answered = sym (says false g); bytes = z ∙ sym (ap (λ (b : Bool). cond b l (replicate (length l) 0)) (fits false g)) }
 
-    pub with_room : not (leb count (length l)) ≡ false → l' ≡ l → SettledText exact count l l' (Is count)
-    with_room g z = let f = not-false (leb count (length l)) g in record { answered = sym (says true f); bytes = z ∙ sym (ap (λ (b : Bool). cond b l (replicate (length l) 0)) (fits true f)) }
+    pub with_room : count ≤ length l → l' ≡ l → SettledText exact count l l' (Is count)
+    with_room h z = let g = le-leb count (length l) h in record { answered = sym (says true g); bytes = z ∙ sym (ap (λ (b : Bool). cond b l (replicate (length l) 0)) (fits true g)) }
 
 -- ---- a text that was put on zeros, and settled
 

@@ -2,7 +2,7 @@
 use mathlib.Core.Path.{◌≡◌, refl, sym, ap, ◌∙◌, subst}
 use mathlib.Core.Logic.{◌↔◌}
 use mathlib.Core.Bool.{Bool, true, false, cond}
-use mathlib.Core.List.{List, [], append_nil}
+use mathlib.Core.List.{List, [], append-nil}
 use Prim.Native.Nat.{ℕ, ◌+◌, ◌*◌, ◌/◌, ◌%◌, ◌≤◌, ◌<◌, ◌^◌}
 use native.Mathlib.Nat.{mul-div_cancel}
 use native.Mathlib.Omega.{arith}
@@ -112,8 +112,8 @@ module _ (number : ℕ) (coordinates : List ℤ) (corners labels : List ℕ) whe
 
     same-sheet : list_sheet coordinates corners labels ≡ s
     same-sheet =
-        let e = list-points coordinates (length coordinates / 3) s.points [] (h.coordinate-list ∙ sym (append_nil (coordinates_of s.points))) (sym n-third) in
-        let f = list-triangles corners labels (length labels) s.triangles [] [] (h.corner-list ∙ sym (append_nil (corners_of s.triangles))) (h.label-list ∙ sym (append_nil (labels_of s.triangles))) (sym m-is) in
+        let e = list-points coordinates (length coordinates / 3) s.points [] (h.coordinate-list ∙ sym (append-nil (coordinates_of s.points))) (sym n-third) in
+        let f = list-triangles corners labels (length labels) s.triangles [] [] (h.corner-list ∙ sym (append-nil (corners_of s.triangles))) (h.label-list ∙ sym (append-nil (labels_of s.triangles))) (sym m-is) in
         λ i. record { points = e i; triangles = f i }
 
 pub list-laws : ListLaws

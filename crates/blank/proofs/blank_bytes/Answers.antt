@@ -1,8 +1,5 @@
 -- `blank::blank_bytes` meets its contract. Assumes nothing.
-use Prim.Native.Nat.{◌-◌}
-use native.Mathlib.Omega.{arith}
-use lib.ListN.{length}
-use Rattle.blank.proofs.Blanking.{Blanking, blank_starts, blank_turn, blank-ends}
+use Rattle.blank.proofs.Blanking.{blank_starts, blank_turn, blank-ends}
 use Rattle.blank.proofs.blank_bytes.Goals as goal
 
 pub loop-k-init : goal.loop-k-init

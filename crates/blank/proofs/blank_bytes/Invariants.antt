@@ -1,8 +1,7 @@
 -- `blank::blank_bytes` meets its contract. Assumes nothing.
 use Prim.Native.Nat.{◌-◌}
-use native.Mathlib.Omega.{arith}
 use lib.ListN.{length}
-use Rattle.blank.proofs.Blanking.{Blanking, blank_starts, blank_turn, blank-ends}
+use Rattle.blank.proofs.Blanking.{Blanking}
 use Rattle.blank.proofs.blank_bytes.Given as goal
 
 abbrev pub invariant-loop-k : goal.invariant-loop-k

@@ -1,9 +1,6 @@
 -- `blank::blank_numbers` meets its contract. Assumes nothing.
-use Prim.Native.Nat.{◌-◌}
-use native.Mathlib.Omega.{arith}
-use lib.ListN.{length}
 use lib.Ieee.{binary64, of_bits}
-use Rattle.blank.proofs.Blanking.{Blanking, blank_starts, blank_turn, blank-ends}
+use Rattle.blank.proofs.Blanking.{blank_starts, blank_turn, blank-ends}
 use Rattle.blank.proofs.blank_numbers.Goals as goal
 
 pub loop-k-init : goal.loop-k-init

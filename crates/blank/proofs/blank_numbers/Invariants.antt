@@ -1,9 +1,8 @@
 -- `blank::blank_numbers` meets its contract. Assumes nothing.
 use Prim.Native.Nat.{◌-◌}
-use native.Mathlib.Omega.{arith}
 use lib.ListN.{length}
 use lib.Ieee.{binary64, of_bits}
-use Rattle.blank.proofs.Blanking.{Blanking, blank_starts, blank_turn, blank-ends}
+use Rattle.blank.proofs.Blanking.{Blanking}
 use Rattle.blank.proofs.blank_numbers.Given as goal
 
 abbrev pub invariant-loop-k : goal.invariant-loop-k

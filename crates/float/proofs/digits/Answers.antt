@@ -7,7 +7,6 @@ use native.Mathlib.Omega.{arith}
 use borrow.Author.Tests.{le-leb, lt-leb}
 use lib.Dec.{leb}
 use mir.Val.{bool_byte}
-use Rattle.float.specs.Digits.{recurrence}
 use Rattle.float.proofs.Digit.{Step, step, root-small, root_grows}
 use Rattle.float.proofs.DigitLaw.{digits_end, digits_step}
 use Rattle.float.proofs.digits.Invariants.{Going}

@@ -1,15 +1,8 @@
 -- `float::digits` meets its contract. Each turn is one `Step` of `Digit`, and what the recurrence gives from where the loop stands is what it gives from its start.
 -- The measure is the number of digits to come. Assumes nothing.
-use mathlib.Core.Path.{◌≡◌, refl, ◌∙◌}
-use mathlib.Core.Bool.{cond}
-use Prim.Native.Nat.{ℕ, ◌+◌, ◌-◌, ◌*◌, ◌/◌, ◌%◌, ◌^◌, ◌≤◌, ◌<◌}
-use native.Mathlib.Omega.{arith}
-use borrow.Author.Tests.{le-leb, lt-leb}
-use lib.Dec.{leb}
-use mir.Val.{bool_byte}
+use mathlib.Core.Path.{◌≡◌}
+use Prim.Native.Nat.{ℕ, ◌-◌, ◌*◌, ◌^◌, ◌≤◌, ◌<◌}
 use Rattle.float.specs.Digits.{recurrence}
-use Rattle.float.proofs.Digit.{Step, step, root-small, root_grows}
-use Rattle.float.proofs.DigitLaw.{digits_end, digits_step}
 use Rattle.float.proofs.digits.Given as goal
 
 -- `float::digits` meets its contract. Each turn is one `Step` of `Digit`, and what the recurrence gives from where the loop stands is what it gives from its start.

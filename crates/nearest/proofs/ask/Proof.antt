@@ -46,7 +46,7 @@ shape_of-work-in-Refused c = search rules
 returns-in-Refused : tie.Need-returns-in-Refused
 returns-in-Refused c =
     let l = c.before.before.before in
-    let e = c.before.in-Refused.is in
+    let e = c.in-Refused.is in
     record { answer = at_first _ _ _ _ _ _ (sym l.lent.ensures.answer ∙ e); words = left l e }
 
 enum_told-1 : tie.Need-enum_told-1
@@ -70,11 +70,10 @@ shape_of-work-in-Refused-later c = search rules
 returns-in-Refused-later : tie.Need-returns-in-Refused-later
 returns-in-Refused-later c =
     let d = c.before.before in
-    let y = d.before.before.before in
-    let k = y.before in
+    let k = d.before.before.before in
     let e = k.before in
     let s = start (asked e) in
-    let r = sym k.later.ensures ∙ y.in-Refused-later.is in
+    let r = sym k.later.ensures ∙ c.in-Refused-later.is in
     record {
       answer = at-later _ _ _ _ _ _ (passes e) r;
       words = d.clear_needed.ensures ∙ ap (cleared (needed s.args.corners.now (length s.args.points.now / 3))) (left (asked e) e.in_default.is) ∙ later-words _ _ _ _ s.args.work.now r;

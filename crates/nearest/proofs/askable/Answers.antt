@@ -1,7 +1,6 @@
 -- `nearest::askable` meets its contract: each way out is a part of question 42. Assumes nothing.
 use mathlib.Core.Path.{refl, sym, ◌∙◌}
 use borrow.Author.Rules.{rules}
-use borrow.Author.Tests.{not_true, not-false}
 use Rattle.units.proofs.Tests.{on-units_test}
 use Rattle.nearest.proofs.Questions.{not_threes, too_many, no_places, asked_units}
 use Rattle.nearest.proofs.askable.Goals as goal

@@ -1,10 +1,5 @@
 -- `nearest::compare` meets its contract: the corner is passed over, or meets each probe in turn (`proofs/Turns`). Assumes nothing.
-use Prim.Native.Nat.{◌-◌, ◌/◌}
-use mathlib.Core.Path.{◌≡◌}
-use lib.ListN.{length}
-use borrow.Author.Rules.{rules}
-use Rattle.checking.specs.Validate.{point_at}
-use Rattle.nearest.proofs.Turns.{Comparing, passed_over, none-met, corner-there, distance-there, one-met, all-met}
+use Rattle.nearest.proofs.Turns.{passed_over, none-met, corner-there, distance-there, one-met, all-met}
 use Rattle.nearest.proofs.Exact.{distance-holds}
 use Rattle.nearest.proofs.compare.Goals as goal
 

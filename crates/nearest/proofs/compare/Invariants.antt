@@ -2,10 +2,8 @@
 use Prim.Native.Nat.{◌-◌, ◌/◌}
 use mathlib.Core.Path.{◌≡◌}
 use lib.ListN.{length}
-use borrow.Author.Rules.{rules}
 use Rattle.checking.specs.Validate.{point_at}
-use Rattle.nearest.proofs.Turns.{Comparing, passed_over, none-met, corner-there, distance-there, one-met, all-met}
-use Rattle.nearest.proofs.Exact.{distance-holds}
+use Rattle.nearest.proofs.Turns.{Comparing}
 use Rattle.nearest.proofs.compare.Given as goal
 
 abbrev pub invariant-loop-i : goal.invariant-loop-i

@@ -2,7 +2,6 @@
 use mathlib.Core.Path.{sym, ap}
 use mathlib.Core.Bool.{Bool, cond}
 use lib.ListN.{set}
-use borrow.Author.Rules.{rules}
 use Rattle.nearest.proofs.consider.Goals as goal
 
 pub returns-then-least-i : goal.returns-then-least-i

@@ -1,6 +1,5 @@
 -- `nearest::distance` meets its contract. Assumes nothing.
 use mathlib.Core.Path.{◌∙◌}
-use borrow.Author.Rules.{rules}
 use Rattle.float.specs.Point.{dotted}
 use Rattle.nearest.proofs.distance.Goals as goal
 

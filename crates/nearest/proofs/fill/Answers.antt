@@ -1,12 +1,12 @@
 -- `nearest::fill` meets its contract: after i turns the places below i are filled. Assumes nothing.
-use Prim.Native.Nat.{ℕ, ◌+◌, ◌-◌, ◌*◌, ◌≤◌, ◌<◌}
+use Prim.Native.Nat.{ℕ, ◌+◌, ◌*◌}
 use mathlib.Core.Path.{◌≡◌, refl, ◌∙◌, subst}
 use native.Mathlib.Omega.{arith}
-use lib.ListN.{length, get_or, set, length-set}
+use lib.ListN.{get_or, set, length-set}
 use lib.Ieee.{nan}
-use borrow.Author.Rules.{rules, Below-set}
+use borrow.Author.Rules.{Below-set}
 use Rattle.halfedges.specs.Place.{at}
-use Rattle.nearest.specs.Stages.{OnSquares, FilledIn, shown}
+use Rattle.nearest.specs.Stages.{FilledIn, shown}
 use Rattle.nearest.proofs.Places.{none-set, place_set}
 use Rattle.nearest.proofs.fill.Goals as goal
 

@@ -1,13 +1,9 @@
 -- `nearest::fill` meets its contract: after i turns the places below i are filled. Assumes nothing.
-use Prim.Native.Nat.{ℕ, ◌+◌, ◌-◌, ◌*◌, ◌≤◌, ◌<◌}
-use mathlib.Core.Path.{◌≡◌, refl, ◌∙◌, subst}
-use native.Mathlib.Omega.{arith}
-use lib.ListN.{length, get_or, set, length-set}
+use Prim.Native.Nat.{ℕ, ◌-◌, ◌*◌, ◌≤◌, ◌<◌}
+use mathlib.Core.Path.{◌≡◌}
+use lib.ListN.{length, get_or}
 use lib.Ieee.{nan}
-use borrow.Author.Rules.{rules, Below-set}
-use Rattle.halfedges.specs.Place.{at}
-use Rattle.nearest.specs.Stages.{OnSquares, FilledIn, shown}
-use Rattle.nearest.proofs.Places.{none-set, place_set}
+use Rattle.nearest.specs.Stages.{OnSquares, FilledIn}
 use Rattle.nearest.proofs.fill.Given as goal
 
 abbrev pub invariant-loop-i : goal.invariant-loop-i

@@ -1,7 +1,5 @@
 -- `nearest::later` meets its contract: each way out is a question (`proofs/Questions`). Assumes nothing.
 use mathlib.Core.Path.{sym, ◌∙◌}
-use borrow.Author.Tests.{not_true, not-false}
-use borrow.Author.Rules.{rules}
 use Rattle.nearest.proofs.Questions.{at_five, at_last, at_end}
 use Rattle.nearest.proofs.later.Goals as goal
 

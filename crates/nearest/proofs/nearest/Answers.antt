@@ -1,5 +1,4 @@
 -- `nearest::nearest` meets its contract: a question refuses, or the places are filled. Assumes nothing.
-use borrow.Author.Rules.{rules}
 use Rattle.nearest.proofs.Questions.{refused, ready, replied}
 use Rattle.nearest.proofs.nearest.Goals as goal
 
@@ -8,8 +7,8 @@ returns-in-Refused c = refused c.args.points.now c.args.corners.now c.args.label
 
 pub measure-requires : goal.measure-requires
 measure-requires c =
-    ready c.args.points.now c.args.corners.now c.args.labels.now c.args.work.now c.args.probes.now c.args.answers.now c.wipe.new.0 c.wipe.ensures c.ask.new.1.1.1.0 _ c.ask.ensures c.in_default.is
+    ready c.args.points.now c.args.corners.now c.args.labels.now c.args.work.now c.args.probes.now c.args.answers.now c.wipe.new.list c.wipe.ensures c.ask.new.work _ c.ask.ensures c.in_default.is
 
 pub returns : goal.returns
 returns c =
-    replied c.args.points.now c.args.corners.now c.args.labels.now c.args.work.now c.args.probes.now c.args.answers.now c.wipe.new.0 c.wipe.ensures c.ask.new.1.1.1.0 _ c.ask.ensures c.in_default.is _ _ c.measure.ensures
+    replied c.args.points.now c.args.corners.now c.args.labels.now c.args.work.now c.args.probes.now c.args.answers.now c.wipe.new.list c.wipe.ensures c.ask.new.work _ c.ask.ensures c.in_default.is _ _ c.measure.ensures

@@ -1,10 +1,9 @@
 -- `nearest::pass` meets its contract: at the loop's head the best of the corners below v is kept. Assumes nothing.
-use Prim.Native.Nat.{ℕ, ◌-◌, ◌/◌, ◌≤◌}
+use Prim.Native.Nat.{ℕ, ◌/◌}
 use mathlib.Core.Path.{◌≡◌, refl, ◌∙◌, subst}
 use native.Mathlib.Omega.{arith}
 use lib.ListN.{length}
-use borrow.Author.Rules.{rules}
-use Rattle.nearest.specs.Stages.{Laid, BestsKept}
+use Rattle.nearest.specs.Stages.{BestsKept}
 use Rattle.nearest.proofs.Turns.{laid_again}
 use Rattle.nearest.proofs.pass.Goals as goal
 

@@ -1,11 +1,8 @@
 -- `nearest::pass` meets its contract: at the loop's head the best of the corners below v is kept. Assumes nothing.
-use Prim.Native.Nat.{ℕ, ◌-◌, ◌/◌, ◌≤◌}
-use mathlib.Core.Path.{◌≡◌, refl, ◌∙◌, subst}
-use native.Mathlib.Omega.{arith}
+use Prim.Native.Nat.{◌-◌, ◌/◌, ◌≤◌}
+use mathlib.Core.Path.{◌≡◌}
 use lib.ListN.{length}
-use borrow.Author.Rules.{rules}
 use Rattle.nearest.specs.Stages.{Laid, BestsKept}
-use Rattle.nearest.proofs.Turns.{laid_again}
 use Rattle.nearest.proofs.pass.Given as goal
 
 abbrev pub invariant-loop-v : goal.invariant-loop-v

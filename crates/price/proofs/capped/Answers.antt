@@ -1,10 +1,7 @@
 -- `price::capped` meets its contract: at the loop's head the prices from k on decide. Assumes nothing.
-use Prim.Native.Nat.{◌≤◌, ◌-◌}
-use mathlib.Core.Path.{◌≡◌, refl, sym, ◌∙◌}
-use lib.ListN.{length, drop}
+use mathlib.Core.Path.{refl, sym, ◌∙◌}
 use native.Mathlib.Omega.{arith}
 use borrow.Author.Rules.{rules}
-use Rattle.price.specs.Tariff.{capped?}
 use Rattle.price.proofs.Rules.{capped-on, capped_out, capped-done}
 use Rattle.price.proofs.capped.Goals as goal
 

@@ -1,9 +1,7 @@
 -- `price::cost` meets its contract. The invariant is `Walking`; the measure is what is left of the steps. Assumes nothing.
 use Prim.Native.Nat.{◌+◌, ◌-◌, ◌*◌, ◌≤◌}
 use native.Mathlib.Omega.{arith}
-use lib.ListN.{length, get_or}
-use borrow.Author.Rules.{rules}
-use Rattle.price.specs.Stages.{Costable}
+use lib.ListN.{get_or}
 use Rattle.price.proofs.Walk.{product_fits, sum_fits, Walking, nothing_yet, cap, paid, forward, walked, ended}
 use Rattle.price.proofs.cost.Goals as goal
 

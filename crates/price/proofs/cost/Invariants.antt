@@ -1,10 +1,8 @@
 -- `price::cost` meets its contract. The invariant is `Walking`; the measure is what is left of the steps. Assumes nothing.
-use Prim.Native.Nat.{◌+◌, ◌-◌, ◌*◌, ◌≤◌}
-use native.Mathlib.Omega.{arith}
-use lib.ListN.{length, get_or}
-use borrow.Author.Rules.{rules}
+use Prim.Native.Nat.{◌-◌}
+use lib.ListN.{length}
 use Rattle.price.specs.Stages.{Costable}
-use Rattle.price.proofs.Walk.{product_fits, sum_fits, Walking, nothing_yet, cap, paid, forward, walked, ended}
+use Rattle.price.proofs.Walk.{Walking}
 use Rattle.price.proofs.cost.Given as goal
 
 abbrev pub invariant-loop-k : goal.invariant-loop-k

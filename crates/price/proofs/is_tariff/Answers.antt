@@ -2,7 +2,6 @@
 use mathlib.Core.Path.{refl, sym, ◌∙◌}
 use native.Mathlib.Omega.{arith}
 use borrow.Author.Rules.{rules}
-use borrow.Author.Tests.{not_true, not-false}
 use Rattle.price.proofs.Rules.{no_steps, unmatched, too_many, asked}
 use Rattle.price.proofs.is_tariff.Goals as goal
 

@@ -4,7 +4,6 @@ use mathlib.Core.Path.{◌≡◌, sym, ap, ◌∙◌, subst}
 use mathlib.Core.Bool.{true}
 use lib.IntN.{ℤ}
 use borrow.Author.Rules.{rules}
-use borrow.Author.Tests.{not_true, not-false}
 use Rattle.units.specs.Units.{AllOnUnits, units_at}
 use Rattle.units.proofs.Tests.{all-on-units_iff, on-units_test}
 use Rattle.volume.specs.Volume.{six_of}
@@ -31,7 +30,7 @@ on c = c.before.on_units.ensures.0 (c.if-not-on_units.false)
 
 ready : (c : tie.Else-not-on_units) → Measurable (begun c.before).args.points.now (begun c.before).args.corners.now
 ready c =
-    measured _ _ _ _ (begun c.before).args.uppers.now (begun c.before).args.prices.now (checked c.before).validate.ensures _ _ c.before.before.before.in-Accepted.is (on c)
+    measured _ _ _ _ (begun c.before).args.uppers.now (begun c.before).args.prices.now (checked c.before).validate.ensures _ _ c.in-Accepted.is (on c)
 
 is-tariff : (c : tie.Else-not-is_tariff) → tariff? (begun c.before.before.before).args.uppers.now (begun c.before.before.before).args.prices.now ≡ true
 is-tariff c = sym c.before.is_tariff.ensures ∙ c.if-not-is_tariff.false
@@ -55,7 +54,7 @@ shape_of-work-then-not-on_units c = search rules
 returns-then-not-on_units : tie.Need-returns-then-not-on_units
 returns-then-not-on_units c =
     let v = checked c.before in
-    at-points _ _ _ _ _ _ v.validate.ensures _ _ c.before.before.before.in-Accepted.is (sym (on-units_test _ _ c.before.on_units.ensures) ∙ c.if-not-on_units.true)
+    at-points _ _ _ _ _ _ v.validate.ensures _ _ c.in-Accepted.is (sym (on-units_test _ _ c.before.on_units.ensures) ∙ c.if-not-on_units.true)
 
 is_tariff-requires : tie.Need-is_tariff-requires
 is_tariff-requires c κs = search rules
@@ -67,7 +66,7 @@ returns-then-not-is_tariff : tie.Need-returns-then-not-is_tariff
 returns-then-not-is_tariff c =
     let e = c.before.before in
     let v = checked e.before in
-    at-tariff _ _ _ _ _ _ v.validate.ensures _ _ e.before.before.before.in-Accepted.is ((all-on-units_iff _).1 (on e)) (sym c.before.is_tariff.ensures ∙ c.if-not-is_tariff.true)
+    at-tariff _ _ _ _ _ _ v.validate.ensures _ _ e.in-Accepted.is ((all-on-units_iff _).1 (on e)) (sym c.before.is_tariff.ensures ∙ c.if-not-is_tariff.true)
 
 exact-requires : tie.Need-exact-requires
 exact-requires c κs = ready c.before.before
@@ -97,14 +96,14 @@ returns-else-not-is_tariff c =
     let s = begun e.before in
     let us = s.args.uppers.now in
     let ps = s.args.prices.now in
-    at_price _ _ _ _ us ps (checked e.before).validate.ensures _ _ e.before.before.before.in-Accepted.is ((all-on-units_iff _).1 (on e)) (is-tariff t) _
+    at_price _ _ _ _ us ps (checked e.before).validate.ensures _ _ e.in-Accepted.is ((all-on-units_iff _).1 (on e)) (is-tariff t) _
     (c.cost.ensures ∙ ap (λ (n : ℕ). by_cubes n 0 us ps) (counted u) ∙ sym (in_cubes _ 0 us ps))
 
 shape_of-work-in-Refused : tie.Need-shape_of-work-in-Refused
 shape_of-work-in-Refused c = search rules
 
 returns-in-Refused : tie.Need-returns-in-Refused
-returns-in-Refused c = let v = c.before.before.before in at-refused _ _ _ _ _ _ v.validate.ensures _ c.before.in-Refused.is
+returns-in-Refused c = let v = c.before.before.before in at-refused _ _ _ _ _ _ v.validate.ensures _ c.in-Refused.is
 
 pub price_spec : {M : Type 1} → statement M
 price_spec =

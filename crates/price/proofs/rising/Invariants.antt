@@ -1,11 +1,8 @@
 -- `price::rising` meets its contract: at the loop's head the values from k on decide, beginning from the one before them. Assumes nothing.
 use Prim.Native.Nat.{◌≤◌, ◌-◌}
-use mathlib.Core.Path.{◌≡◌, sym, ◌∙◌}
+use mathlib.Core.Path.{◌≡◌}
 use lib.ListN.{length, drop}
-use native.Mathlib.Omega.{arith}
-use borrow.Author.Rules.{rules}
 use Rattle.price.specs.Tariff.{rises, rising?}
-use Rattle.price.proofs.Rules.{rising_none, rising-start, rising-on, rising_out, rising-done}
 use Rattle.price.proofs.rising.Given as goal
 
 abbrev pub invariant-loop-k : goal.invariant-loop-k

@@ -1,7 +1,6 @@
 -- `quality::factor` meets its contract. Assumes nothing.
 use mathlib.Core.Path.{ap, ap₂, ◌∙◌}
 use lib.Ieee.{binary64}
-use borrow.Author.Rules.{rules}
 use Rattle.float.specs.Root.{root}
 use Rattle.float.specs.Point.{times}
 use Rattle.quality.proofs.Numbers.{two_is, three-is}

@@ -1,6 +1,5 @@
 -- `quality::least` meets its contract: each way out is a case of `least_with`, the first by what the quick test shows. Assumes nothing.
 use mathlib.Core.Path.{◌≡◌, sym, ap, ap₂, ◌∙◌}
-use borrow.Author.Tests.{not-true, not-false}
 use lib.Ieee.{Float}
 use Rattle.float.specs.Point.{times}
 use Rattle.quality.specs.Quality.{over, rated, quality, least_with}

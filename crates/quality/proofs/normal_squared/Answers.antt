@@ -3,7 +3,6 @@ use mathlib.Core.Path.{ap, ap₂, ◌∙◌}
 use lib.Ieee.{Float}
 use Rattle.float.specs.Point.{dotted, crossed}
 use Rattle.float.specs.declared.Point.{Point}
-use borrow.Author.Rules.{rules}
 use Rattle.quality.proofs.normal_squared.Goals as goal
 
 abbrev square : Point → Float

@@ -2,13 +2,11 @@
 use mathlib.Core.Path.{sym, ap, ◌∙◌, subst}
 use mathlib.Core.Bool.{false≢true}
 use lib.Dec.{T}
-use borrow.Author.Tests.{not-false}
 use lib.Ieee.{Float, binary64, of_bits, mul, le}
 use lib.Ieee.Fits.{mul-fits}
 use Rattle.float.specs.Point.{times}
 use Rattle.quality.specs.Quality.{over}
 use Rattle.quality.proofs.Quick.{sized-is, passes as law}
-use borrow.Author.Rules.{rules}
 use Rattle.quality.proofs.passes.Goals as goal
 
 pub returns-then-not-s-d : goal.returns-then-not-s-d

@@ -3,7 +3,6 @@ use mathlib.Core.Path.{ap, ap₂, ◌∙◌}
 use Rattle.float.specs.Point.{dotted}
 use Rattle.quality.specs.Quality.{over, wedge}
 use Rattle.quality.proofs.Numbers.{six-is}
-use borrow.Author.Rules.{rules}
 use Rattle.quality.proofs.share.Goals as goal
 
 pub returns : goal.returns

@@ -1,12 +1,10 @@
 -- `vectors::cleared` meets its contract. The loop's invariant: the first `i` are as they must be. Assumes nothing.
-use Prim.Native.Nat.{ℕ, ◌+◌, ◌-◌, ◌*◌}
+use Prim.Native.Nat.{◌+◌, ◌*◌}
 use mathlib.Core.Path.{◌≡◌, refl, sym, ap, ◌∙◌}
 use mathlib.Core.Bool.{false≢true}
 use native.Mathlib.Omega.{arith}
-use borrow.Author.Rules.{rules}
-use lib.ListN.{length, get_or}
 use Rattle.vectors.specs.Words.{left_at}
-use Rattle.vectors.proofs.Lists.{Agrees, agree_none, agree_more, agree_all, at_place}
+use Rattle.vectors.proofs.Lists.{agree_none, agree_more, agree_all, at_place}
 use Rattle.vectors.proofs.cleared.Goals as goal
 
 -- what is compared with the element at i
@@ -27,7 +25,7 @@ loop-i-init c = agree_none _ _ _ _
 pub returns-then-list-i : goal.returns-then-list-i
 returns-then-list-i c = (
   λ h. absurd (false≢true h),
-  λ h. absurd (c.if-list-i.true (at_place _ _ _ c.loop-i.i c.args.list.now 0 c.loop-i-test.true h ∙ sym (wanted-2 c))),
+  λ h. absurd (c.if-list-i.true (at_place (left_at c.args.n) 1 0 c.loop-i.i c.args.list.now 0 c.loop-i-test.true h ∙ sym (wanted-2 c))),
 )
 
 pub loop-i-preserved : goal.loop-i-preserved

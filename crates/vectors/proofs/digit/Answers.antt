@@ -1,6 +1,5 @@
 -- `vectors::digit` meets its contract: each return's tests pick its case. Assumes nothing.
 use native.Mathlib.Omega.{arith}
-use borrow.Author.Rules.{rules}
 use borrow.Author.Tests.{lt-ltb, le-ltb}
 use Rattle.vectors.proofs.digit.Goals as goal
 

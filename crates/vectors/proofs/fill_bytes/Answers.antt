@@ -1,12 +1,10 @@
 -- `vectors::fill_bytes` meets its contract. The loop's invariant: the first `i` places are stored, and the others as lent. Assumes nothing.
-use Prim.Native.Nat.{◌-◌}
 use native.Mathlib.Omega.{arith}
-use borrow.Author.Rules.{rules}
-use lib.ListN.{length, length-set}
+use lib.ListN.{length-set}
 use Prim.Native.Nat.{ℕ, ◌%◌}
 use mathlib.Core.Path.{ap}
 use Rattle.vectors.specs.Words.{byte_at}
-use Rattle.vectors.proofs.Lists.{Filled, fill_none, fill_more, fill_all, by_one}
+use Rattle.vectors.proofs.Lists.{fill_none, fill_more, fill_all, by_one}
 use Rattle.vectors.proofs.fill_bytes.Goals as goal
 
 pub loop-i-init : goal.loop-i-init

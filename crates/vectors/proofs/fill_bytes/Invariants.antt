@@ -1,12 +1,8 @@
 -- `vectors::fill_bytes` meets its contract. The loop's invariant: the first `i` places are stored, and the others as lent. Assumes nothing.
 use Prim.Native.Nat.{◌-◌}
-use native.Mathlib.Omega.{arith}
-use borrow.Author.Rules.{rules}
-use lib.ListN.{length, length-set}
-use Prim.Native.Nat.{ℕ, ◌%◌}
-use mathlib.Core.Path.{ap}
+use lib.ListN.{length}
 use Rattle.vectors.specs.Words.{byte_at}
-use Rattle.vectors.proofs.Lists.{Filled, fill_none, fill_more, fill_all, by_one}
+use Rattle.vectors.proofs.Lists.{Filled}
 use Rattle.vectors.proofs.fill_bytes.Given as goal
 
 abbrev pub invariant-loop-i : goal.invariant-loop-i

@@ -1,10 +1,7 @@
 -- `vectors::fill_floats` meets its contract. The loop's invariant: the first `i` places are stored, and the others as lent. Assumes nothing.
-use Prim.Native.Nat.{◌-◌}
 use native.Mathlib.Omega.{arith}
-use borrow.Author.Rules.{rules}
-use lib.ListN.{length, length-set}
-use Rattle.vectors.specs.Words.{float_at}
-use Rattle.vectors.proofs.Lists.{Filled, fill_none, fill_more, fill_all, by_one}
+use lib.ListN.{length-set}
+use Rattle.vectors.proofs.Lists.{fill_none, fill_more, fill_all}
 use Rattle.vectors.proofs.fill_floats.Goals as goal
 
 pub loop-i-init : goal.loop-i-init

@@ -1,10 +1,8 @@
 -- `vectors::fill_floats` meets its contract. The loop's invariant: the first `i` places are stored, and the others as lent. Assumes nothing.
 use Prim.Native.Nat.{◌-◌}
-use native.Mathlib.Omega.{arith}
-use borrow.Author.Rules.{rules}
-use lib.ListN.{length, length-set}
+use lib.ListN.{length}
 use Rattle.vectors.specs.Words.{float_at}
-use Rattle.vectors.proofs.Lists.{Filled, fill_none, fill_more, fill_all, by_one}
+use Rattle.vectors.proofs.Lists.{Filled}
 use Rattle.vectors.proofs.fill_floats.Given as goal
 
 abbrev pub invariant-loop-i : goal.invariant-loop-i

@@ -1,10 +1,8 @@
 -- `vectors::fill_words` meets its contract. The loop's invariant: the first `i` places are stored, and the others as lent. Assumes nothing.
-use Prim.Native.Nat.{◌-◌}
 use native.Mathlib.Omega.{arith}
-use borrow.Author.Rules.{rules}
-use lib.ListN.{length, length-set}
+use lib.ListN.{length-set}
 use Rattle.vectors.specs.Words.{word_at}
-use Rattle.vectors.proofs.Lists.{Filled, fill_none, fill_more, fill_all, by_one}
+use Rattle.vectors.proofs.Lists.{fill_none, fill_more, fill_all, by_one}
 use Rattle.vectors.proofs.fill_words.Goals as goal
 
 pub loop-i-init : goal.loop-i-init

@@ -1,6 +1,5 @@
 -- `vectors::float` meets its contract. Assumes nothing.
 use mathlib.Core.Path.{ap₂, ◌∙◌}
-use borrow.Author.Rules.{rules}
 use Rattle.vectors.specs.Words.{joined}
 use Rattle.vectors.proofs.Digits.{zero_float_lem}
 use Rattle.vectors.proofs.float.Goals as goal

@@ -1,11 +1,9 @@
 -- `vectors::is_bytes` meets its contract. The loop's invariant: the first `i` are as they must be. Assumes nothing.
-use Prim.Native.Nat.{ℕ, ◌+◌, ◌-◌, ◌*◌, ◌%◌}
+use Prim.Native.Nat.{ℕ, ◌+◌, ◌*◌, ◌%◌}
 use mathlib.Core.Path.{◌≡◌, sym, ap, ◌∙◌}
 use native.Mathlib.Omega.{arith}
-use borrow.Author.Rules.{rules}
-use lib.ListN.{length}
 use Rattle.vectors.specs.Words.{byte_at}
-use Rattle.vectors.proofs.Lists.{Agrees, agree_none, agree_more, no_list, other_length, other_element, same-list, by_one}
+use Rattle.vectors.proofs.Lists.{agree_none, agree_more, no_list, other_length, other_element, same-list, by_one}
 use Rattle.vectors.proofs.is_bytes.Goals as goal
 
 -- what is compared with the element at i

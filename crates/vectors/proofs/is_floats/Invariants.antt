@@ -1,14 +1,8 @@
 -- `vectors::is_floats` meets its contract. The loop's invariant: the first `i` are as they must be. Assumes nothing.
 use Prim.Native.Nat.{◌+◌, ◌-◌}
-use mathlib.Core.Path.{sym, ◌∙◌}
-use mathlib.Core.Bool.{true≢false}
-use native.Mathlib.Omega.{arith}
-use borrow.Author.Rules.{rules}
-use borrow.Author.Tests.{not-true, not-false}
 use lib.ListN.{length}
-use lib.Ieee.{nan}
 use Rattle.vectors.specs.Words.{float_at}
-use Rattle.vectors.proofs.Lists.{Agrees, agree_none, agree_more, no_list, other_length, other_element, same-list}
+use Rattle.vectors.proofs.Lists.{Agrees}
 use Rattle.vectors.proofs.is_floats.Given as goal
 
 abbrev pub invariant-loop-i : goal.invariant-loop-i

@@ -1,11 +1,8 @@
 -- `vectors::is_words` meets its contract. The loop's invariant: the first `i` are as they must be. Assumes nothing.
-use Prim.Native.Nat.{◌+◌, ◌-◌, ◌*◌}
-use mathlib.Core.Path.{◌≡◌, sym, ◌∙◌}
-use native.Mathlib.Omega.{arith}
-use borrow.Author.Rules.{rules}
+use Prim.Native.Nat.{◌+◌, ◌-◌}
 use lib.ListN.{length}
 use Rattle.vectors.specs.Words.{word_at}
-use Rattle.vectors.proofs.Lists.{Agrees, agree_none, agree_more, no_list, other_length, other_element, same-list, by_one}
+use Rattle.vectors.proofs.Lists.{Agrees}
 use Rattle.vectors.proofs.is_words.Given as goal
 
 abbrev pub invariant-loop-i : goal.invariant-loop-i

@@ -1,5 +1,4 @@
 -- `vectors::joined` meets its contract. Assumes nothing.
-use borrow.Author.Rules.{rules}
 use Rattle.vectors.proofs.Digits.{no_nan_bits, nan_bits_lem}
 use Rattle.vectors.proofs.joined.Goals as goal
 

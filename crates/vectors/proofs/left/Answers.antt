@@ -1,5 +1,4 @@
 -- `vectors::left` meets its contract. Assumes nothing.
-use borrow.Author.Rules.{rules}
 use borrow.Author.Tests.{lt-ltb, le-ltb}
 use Rattle.vectors.proofs.left.Goals as goal
 

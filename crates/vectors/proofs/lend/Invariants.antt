@@ -1,11 +1,8 @@
 -- `vectors::lend` meets its contract. The loop's invariant: the first `i` places are stored, and the others as lent. Assumes nothing.
-use Prim.Native.Nat.{◌+◌, ◌-◌, ◌*◌}
-use native.Mathlib.Omega.{arith}
-use borrow.Author.Rules.{rules}
-use lib.ListN.{length, length-set}
-use mathlib.Core.Path.{◌≡◌, ap, ◌∙◌}
+use Prim.Native.Nat.{◌-◌}
+use lib.ListN.{length}
 use Rattle.vectors.specs.Words.{lent_at}
-use Rattle.vectors.proofs.Lists.{Filled, fill_none, fill_more, fill_all}
+use Rattle.vectors.proofs.Lists.{Filled}
 use Rattle.vectors.proofs.lend.Given as goal
 
 abbrev pub invariant-loop-i : goal.invariant-loop-i

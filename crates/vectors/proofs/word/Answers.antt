@@ -1,8 +1,7 @@
 -- `vectors::word` meets its contract. The loop's invariant: the value is what the first `i` digits spell. Assumes nothing.
-use Prim.Native.Nat.{◌-◌, ◌*◌, ◌^◌, ◌≤◌, ◌<◌}
-use mathlib.Core.Path.{◌≡◌, refl}
+use Prim.Native.Nat.{◌*◌}
+use mathlib.Core.Path.{refl}
 use native.Mathlib.Omega.{arith}
-use Rattle.vectors.specs.Words.{spelled}
 use Rattle.vectors.proofs.Digits.{more, room, spelled-more, no_word, some_word}
 use Rattle.vectors.proofs.word.Goals as goal
 
@@ -20,7 +19,7 @@ overflow_add-value c = omega (arith, room c.loop-i.i c.loop-i.value c.loop-i.inv
 
 pub loop-i-preserved : goal.loop-i-preserved
 loop-i-preserved c =
-    (omega arith, more c.loop-i.i c.loop-i.value c.digit.result c.loop-i.invariant.1 c.digit.ensures.1, spelled-more _ _ c.loop-i.i c.loop-i.value c.digit.result c.loop-i.invariant.2 c.digit.ensures.0)
+    (omega arith, more c.loop-i.i c.loop-i.value c.digit.result c.loop-i.invariant.1 c.digit.ensures.1, spelled-more c.args.text.now (c.args.k * 9) c.loop-i.i c.loop-i.value c.digit.result c.loop-i.invariant.2 c.digit.ensures.0)
 
 pub returns : goal.returns
 returns c =

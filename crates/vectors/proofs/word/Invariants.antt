@@ -1,9 +1,7 @@
 -- `vectors::word` meets its contract. The loop's invariant: the value is what the first `i` digits spell. Assumes nothing.
 use Prim.Native.Nat.{◌-◌, ◌*◌, ◌^◌, ◌≤◌, ◌<◌}
-use mathlib.Core.Path.{◌≡◌, refl}
-use native.Mathlib.Omega.{arith}
+use mathlib.Core.Path.{◌≡◌}
 use Rattle.vectors.specs.Words.{spelled}
-use Rattle.vectors.proofs.Digits.{more, room, spelled-more, no_word, some_word}
 use Rattle.vectors.proofs.word.Given as goal
 
 abbrev pub invariant-loop-i : goal.invariant-loop-i

@@ -1,10 +1,10 @@
 -- `vectors::words` meets its contract: `found` is what `find` says of the list. Assumes nothing.
+use Prim.Native.Nat.{◌+◌}
 use mathlib.Core.Path.{refl, sym, subst}
 use native.Mathlib.Omega.{arith}
-use borrow.Author.Rules.{rules}
 use lib.ListN.{length}
 use lib.Seq.{length-take-le}
-use Rattle.vectors.specs.Words.{listed_is}
+use Rattle.vectors.specs.Words.{listed_is, word_at}
 use Rattle.vectors.specs.declared.Listed.TheVariants as listed
 use Rattle.vectors.proofs.Lists.{front}
 use Rattle.vectors.proofs.words.Goals as goal
@@ -44,4 +44,4 @@ fill_words-requires c =
 
 pub returns : goal.returns
 returns c =
-    record { answer = found-2 c; list = front _ _ _ _ _ _ (found-2 c).3 c.fill_words.ensures }
+    record { answer = found-2 c; list = front (word_at c.args.text.now) 1 (c.args.k + 1) c.in-Is.n c.args.list.now _ (found-2 c).3 c.fill_words.ensures }

@@ -1,6 +1,5 @@
 -- `volume::share` meets its contract: each operation is exact (`share_cast`). Assumes nothing.
 use mathlib.Core.Path.{◌≡◌, ap₂, ◌∙◌}
-use borrow.Author.Rules.{rules}
 use Rattle.float.specs.Point.{difference, dotted, crossed}
 use Rattle.checking.specs.Validate.{placed}
 use Rattle.volume.proofs.Lifted.{share_cast}

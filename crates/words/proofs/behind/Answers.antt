@@ -1,7 +1,6 @@
 -- `words::behind` meets its contract.
 use mathlib.Core.Path.{ap, ◌∙◌}
 use Rattle.halfedges.specs.Place.{at}
-use borrow.Author.Rules.{rules}
 use Rattle.words.proofs.behind.Goals as goal
 
 pub returns : goal.returns

@@ -1,8 +1,7 @@
 -- `writing::all_points` meets its contract. The loop's invariant: the lines of `k` points have been written. Assumes nothing.
 use mathlib.Core.Path.{◌≡◌, refl, ◌∙◌, subst}
-use Prim.Native.Nat.{ℕ, ◌*◌, ◌-◌, ◌≤◌}
+use Prim.Native.Nat.{ℕ, ◌*◌}
 use native.Mathlib.Omega.{arith}
-use lib.ListN.{length}
 use Rattle.sheet.specs.Text.{lines}
 use Rattle.sheet.specs.Sheet.{point_line}
 use Rattle.writing.specs.Lists.{each, list_point}

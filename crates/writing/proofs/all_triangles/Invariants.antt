@@ -1,14 +1,11 @@
 -- `writing::all_triangles` meets its contract. The loop's invariant: the lines of `k` triangles have been written. Assumes nothing.
-use mathlib.Core.Path.{◌≡◌, refl, ◌∙◌, subst}
-use Prim.Native.Nat.{ℕ, ◌*◌, ◌-◌, ◌≤◌}
-use native.Mathlib.Omega.{arith}
+use mathlib.Core.Path.{◌≡◌}
+use Prim.Native.Nat.{◌*◌, ◌-◌, ◌≤◌}
 use lib.ListN.{length}
 use Rattle.sheet.specs.Text.{lines}
 use Rattle.sheet.specs.Sheet.{triangle_line}
 use Rattle.writing.specs.Lists.{each, list_triangle}
 use Rattle.writing.specs.Stages.{Put}
-use Rattle.writing.proofs.Puts.{put-nothing, reach}
-use Rattle.writing.proofs.Parts.{line-more}
 use Rattle.writing.proofs.all_triangles.Given as goal
 
 abbrev pub invariant-loop-k : goal.invariant-loop-k

@@ -6,7 +6,6 @@ use lib.IntN.{ℤ, nat_abs}
 use lib.Signed.{non_neg}
 use Rattle.sheet.proofs.Signs.{back}
 use Rattle.writing.proofs.Parts.{minus, no_minus}
-use borrow.Author.Rules.{rules}
 use Rattle.writing.proofs.coordinate.Goals as goal
 
 pub field-requires : goal.field-requires

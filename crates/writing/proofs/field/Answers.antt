@@ -1,7 +1,6 @@
 -- `writing::field` meets its contract. Assumes nothing.
 use native.Mathlib.Omega.{arith}
 use Rattle.writing.proofs.Puts.{both, reach}
-use borrow.Author.Rules.{rules}
 use Rattle.writing.proofs.field.Goals as goal
 
 pub put-requires : goal.put-requires

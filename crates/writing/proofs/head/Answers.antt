@@ -3,7 +3,6 @@ use native.Mathlib.Omega.{arith}
 use Rattle.sheet.specs.Edition.{edition}
 use Rattle.writing.proofs.Puts.{reach}
 use Rattle.writing.proofs.Parts.{head-put}
-use borrow.Author.Rules.{rules}
 use Rattle.writing.proofs.head.Goals as goal
 
 pub field-j-requires : goal.field-j-requires

@@ -4,7 +4,6 @@ use native.Mathlib.Omega.{arith}
 use Rattle.sheet.specs.Edition.{Edition, edition}
 use Rattle.sheet.proofs.Texts.{edition-two, edition_other}
 use Rattle.writing.proofs.Puts.{said_as}
-use borrow.Author.Rules.{rules}
 use Rattle.writing.proofs.opening.Goals as goal
 
 pub returns-then-number-eq2 : goal.returns-then-number-eq2

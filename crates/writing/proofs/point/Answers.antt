@@ -5,7 +5,6 @@ use Rattle.sheet.proofs.Signs.{back}
 use Rattle.writing.specs.Lists.{list_point}
 use Rattle.writing.proofs.Puts.{reach}
 use Rattle.writing.proofs.Parts.{point-put, same_number}
-use borrow.Author.Rules.{rules}
 use Rattle.writing.proofs.point.Goals as goal
 
 pub coordinate-j-requires : goal.coordinate-j-requires

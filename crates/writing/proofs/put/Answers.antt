@@ -1,6 +1,5 @@
 -- `writing::put` meets its contract. Assumes nothing.
 use Rattle.writing.proofs.Puts.{put-past}
-use borrow.Author.Rules.{rules}
 use Rattle.writing.proofs.put.Goals as goal
 
 pub returns-then-at-written : goal.returns-then-at-written

@@ -1,7 +1,6 @@
 -- `writing::settled` meets its contract. Assumes nothing.
 use mathlib.Core.Path.{refl}
 use Rattle.writing.proofs.Settling.{not_exact, no_room, with_room}
-use borrow.Author.Rules.{rules}
 use Rattle.writing.proofs.settled.Goals as goal
 
 pub returns-then-not-exact : goal.returns-then-not-exact

@@ -2,7 +2,6 @@
 use native.Mathlib.Omega.{arith}
 use Rattle.sheet.specs.Edition.{edition}
 use Rattle.writing.proofs.Parts.{sheet-put}
-use borrow.Author.Rules.{rules}
 use Rattle.writing.proofs.text.Goals as goal
 
 pub returns : goal.returns

@@ -7,7 +7,6 @@ use Rattle.sheet.specs.Stages.{ended}
 use Rattle.writing.specs.Lists.{list_triangle}
 use Rattle.writing.proofs.Puts.{said_as, reach}
 use Rattle.writing.proofs.Parts.{triangle_put}
-use borrow.Author.Rules.{rules}
 use Rattle.writing.proofs.triangle.Goals as goal
 
 pub field-j-requires : goal.field-j-requires

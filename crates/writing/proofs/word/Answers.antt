@@ -1,9 +1,6 @@
 -- `writing::word` meets its contract. The loop's invariant: the first `k` bytes have been written. Assumes nothing.
-use mathlib.Core.Path.{◌≡◌, refl, ◌∙◌}
-use Prim.Native.Nat.{◌-◌, ◌≤◌}
+use mathlib.Core.Path.{refl, ◌∙◌}
 use native.Mathlib.Omega.{arith}
-use lib.ListN.{length, take}
-use Rattle.writing.specs.Stages.{Put}
 use Rattle.writing.proofs.Puts.{put-nothing, reach}
 use Rattle.writing.proofs.Parts.{byte_more, word-whole}
 use Rattle.writing.proofs.word.Goals as goal

@@ -1,11 +1,8 @@
 -- `writing::word` meets its contract. The loop's invariant: the first `k` bytes have been written. Assumes nothing.
-use mathlib.Core.Path.{◌≡◌, refl, ◌∙◌}
+use mathlib.Core.Path.{◌≡◌}
 use Prim.Native.Nat.{◌-◌, ◌≤◌}
-use native.Mathlib.Omega.{arith}
 use lib.ListN.{length, take}
 use Rattle.writing.specs.Stages.{Put}
-use Rattle.writing.proofs.Puts.{put-nothing, reach}
-use Rattle.writing.proofs.Parts.{byte_more, word-whole}
 use Rattle.writing.proofs.word.Given as goal
 
 abbrev pub invariant-loop-k : goal.invariant-loop-k

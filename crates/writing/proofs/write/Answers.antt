@@ -2,13 +2,10 @@
 use mathlib.Core.Path.{sym, ap, ◌∙◌}
 use Prim.Native.Nat.{ℕ}
 use native.Mathlib.Omega.{arith}
-use borrow.Author.Tests.{not_true, not-false}
 use Rattle.surface.specs.Check.{every}
-use Rattle.sheet.specs.Sheet.{text}
 use Rattle.writing.specs.Lists.{coordinate_in_range?}
 use Rattle.writing.proofs.Settling.{leaves}
 use Rattle.writing.proofs.Verdicts.{passed, not_near, leaves_16, leaves-text}
-use borrow.Author.Rules.{rules}
 use Rattle.writing.proofs.write.Goals as goal
 
 pub returns-then-number-lt1 : goal.returns-then-number-lt1

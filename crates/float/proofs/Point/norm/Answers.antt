@@ -2,7 +2,6 @@
 use mathlib.Core.Path.{ap, ◌∙◌}
 use lib.Ieee.{binary64}
 use Rattle.float.specs.Root.{root}
-use borrow.Author.Rules.{rules}
 use Rattle.float.proofs.Point.norm.Goals as goal
 
 pub returns : goal.returns

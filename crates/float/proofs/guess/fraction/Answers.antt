@@ -2,7 +2,6 @@
 use Prim.Native.Nat.{◌/◌}
 use native.Mathlib.Omega.{arith}
 use lib.Ieee.{binary64}
-use borrow.Author.Rules.{rules}
 use Rattle.float.proofs.Pack.{packed_no_nan}
 use Rattle.float.proofs.guess.fraction.Goals as goal
 

@@ -1,5 +1,4 @@
 -- `float::guess` meets its contract, which says no more than its range. Assumes nothing.
-use borrow.Author.Rules.{rules}
 use Rattle.float.proofs.Cases.{no_nan}
 use Rattle.float.proofs.guess.guess.Goals as goal
 

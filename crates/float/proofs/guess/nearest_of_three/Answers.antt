@@ -3,7 +3,6 @@ use Prim.Native.Nat.{ℕ, ◌+◌, ◌-◌, ◌*◌, ◌/◌, ◌%◌, ◌^◌, 
 use mathlib.Core.Path.{◌≡◌}
 use native.Mathlib.Omega.{arith}
 use lib.Dec.{leb, ltb}
-use borrow.Author.Rules.{rules}
 use Rattle.float.proofs.Test.{parts, square, none_above, none_below, above-all, below_all, one_of_three, words, far-below, far-above, room-above, room-below}
 use Rattle.float.proofs.guess.nearest_of_three.Goals as goal
 
