@@ -4,7 +4,7 @@ use native.Mathlib.Omega.{arith}
 use native.Mathlib.Numerals.{add-one}
 use mathlib.Core.Path.{◌≡◌, refl, sym, ap, ap₂, ◌∙◌, subst}
 use mathlib.Core.Bool.{Bool, true, false}
-use mathlib.Core.List.{List, [], ◌∷◌, ◌++◌, append_assoc, append_nil}
+use mathlib.Core.List.{List, [], ◌∷◌, ◌++◌, append_assoc, append-nil}
 use lib.ListN.{length, get_or, take, drop, replicate}
 use lib.Seq.{take_at, drop_at, length_front}
 use lib.Ieee.{Float}
@@ -44,7 +44,7 @@ refilled z lent xs l l' xs' n e f a b g =
 
 -- and one that is held by the whole list
 whole : {A : Type 0} (z : A) (l : List A) → l ≡ l ++ replicate (length l - length l) z
-whole z l = let e : 0 ≡ length l - length l = omega arith in sym (append_nil l) ∙ ap (λ (k : ℕ). l ++ replicate k z) e
+whole z l = let e : 0 ≡ length l - length l = omega arith in sym (append-nil l) ∙ ap (λ (k : ℕ). l ++ replicate k z) e
 
 -- ---- the mesh before each round
 

@@ -2,7 +2,7 @@
 use native.Mathlib.Omega.{arith}
 use mathlib.Core.Path.{sym, ◌∙◌}
 use lib.Seq.{length-take-le}
-use borrow.Author.Tests.{not_true, not-false}
+use borrow.Author.Tests.{not-true, not-false}
 use Rattle.improving.proofs.Call.{refused_surface, no_sheet, too_many, room, handed, words-stay, improves}
 use borrow.Author.Rules.{rules}
 use Rattle.improving.proofs.improve.Goals as goal
