@@ -10,7 +10,6 @@ use lib.Seq.{take_at}
 use Rattle.surface.specs.Check.{every}
 use Rattle.sheet.specs.Edition.{edition, IsEdition, is_edition?}
 use Rattle.sheet.specs.Sheet.{Point, Sheet, text, coordinates_of}
-use Rattle.sheet.specs.Contents as Contents
 use Rattle.sheet.specs.Contents.{Contents, Says, contents}
 use Rattle.sheet.specs.Conversion.{fits?, in_unit, point_fits?, point_in_unit, convertible?, sheet_in_unit}
 use Rattle.sheet.specs.Stages.{IsFound}

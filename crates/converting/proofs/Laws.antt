@@ -7,7 +7,6 @@ use native.Mathlib.Omega.{arith}
 use lib.ListN.{length, replicate, length-map}
 use Rattle.sheet.specs.Edition.{edition, IsEdition, is_edition?}
 use Rattle.sheet.specs.Sheet.{Sheet, text}
-use Rattle.sheet.specs.Contents as Contents
 use Rattle.sheet.specs.Contents.{Contents, Says, contents}
 use Rattle.sheet.specs.Conversion.{Converted, point_in_unit, convertible?, sheet_in_unit}
 use Rattle.sheet.specs.Laws.{Exact}
@@ -16,7 +15,7 @@ use Rattle.sheet.proofs.Conversion.{converted_sym, conversion-laws}
 use Rattle.sheet.proofs.InUnit.{in_range, same_ends, unit-some, unit-small, most-small}
 use Rattle.sheet.proofs.Tests.{both-mean, le_means, fails}
 use Rattle.reading.specs.Given.{read, zero_float, holds?, reading_of}
-use Rattle.reading.specs.Given as goal
+use Rattle.reading.specs.Given as Given
 use Rattle.reading.specs.declared.Answer.TheVariants as declared
 use Rattle.writing.specs.Written.{written, refused}
 use Rattle.writing.proofs.Laws.{only-passed}
@@ -101,7 +100,7 @@ module _ (input converted : List ℕ) (number asked : ℕ) (s : Sheet) (said : c
 
   module _ (values corners labels : ℕ) where
     -- the same is left, where the lists hold it and where they do not
-    alike : (holds : Bool) → SameReading values corners labels (cond holds (read asked t) (goal.refused 35)) (cond holds (read number s) (goal.refused 35))
+    alike : (holds : Bool) → SameReading values corners labels (cond holds (read asked t) (Given.refused 35)) (cond holds (read number s) (Given.refused 35))
     alike true =
         let same = conversion-laws.keeps (edition number) (edition asked) (exact number came.from.known) (exact asked came.to.known) s t came.from.in_range came.to.in_range came.same in
         let places = sym same.points in

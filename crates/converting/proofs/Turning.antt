@@ -1,6 +1,6 @@
 -- Coordinates that are turned into another unit, one after the other. Assumes nothing.
 use mathlib.Core.Path.{◌≡◌, refl, sym, ap, ◌∙◌}
-use mathlib.Core.Bool.{Bool, true, false, not, ◌&&◌, and_true}
+use mathlib.Core.Bool.{Bool, true, false, not, ◌&&◌, and-true}
 use mathlib.Core.List.{List, ◌++◌, map}
 use Prim.Native.Nat.{ℕ, ◌+◌, ◌*◌, ◌/◌, ◌≤◌, ◌<◌, ◌^◌}
 use native.Mathlib.Nat.{mul-le-mul}
@@ -87,6 +87,6 @@ all-turned from asked count l₀ l k same t h =
     let f : length (take count l₀) ≡ count = length-take-le count l₀ long in
     let done : length (take count l₀) ≤ k = omega arith in
     record {
-      same = sym (sym t.tested ∙ ap (λ (b : Bool). same && b) (all_done (fits? (unit_of from) (unit_of asked)) (take count l₀) k done) ∙ and_true same);
+      same = sym (sym t.tested ∙ ap (λ (b : Bool). same && b) (all_done (fits? (unit_of from) (unit_of asked)) (take count l₀) k done) ∙ and-true same);
       stored = t.stored ∙ ap (λ (j : ℕ). map (in_unit (unit_of from) (unit_of asked)) (take j l₀) ++ drop j l₀) e;
     }

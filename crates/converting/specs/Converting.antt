@@ -2,7 +2,6 @@
 use Rattle.std.specs.Prelude.{ℕ, cond}
 use Rattle.sheet.specs.Edition.{edition, is_edition?}
 use Rattle.sheet.specs.Sheet.{Sheet, text}
-use Rattle.sheet.specs.Contents as Contents
 use Rattle.sheet.specs.Contents.{Contents}
 use Rattle.sheet.specs.Conversion.{convertible?, sheet_in_unit}
 use Rattle.writing.specs.Written.{Writing, written, refused}

@@ -22,7 +22,7 @@ use Rattle.outlines.proofs.Closing.{outline-laws}
 use Rattle.layers.specs.Layer.{Layered, above_layer, layer_crossings, layer_loops, layer_outlines}
 use Rattle.layers.specs.Call.{outline_questions, after_questions, layer_of, layer_number, layer_counts}
 use Rattle.layers.specs.Laws.{OutlinesClose, HoldsOutlines, LayerLists, LayerLaws}
-use Rattle.layers.specs.declared.Layer.TheVariants.{Listed, Refused}
+use Rattle.layers.specs.declared.Layer.TheVariants.{Listed}
 use Rattle.layers.proofs.Questions.{by-answers, layered_iff, outlinable, zero-passed}
 
 -- for every closed surface and every height the outlines close

@@ -1,9 +1,9 @@
 -- Question 40 by its tests, all questions in turn, and the whole: each way out of the code. Assumes nothing.
-use Prim.Native.Nat.{ℕ, ◌+◌, ◌-◌, ◌*◌, ◌/◌, ◌≤◌}
+use Prim.Native.Nat.{ℕ, ◌*◌, ◌/◌, ◌≤◌}
 use mathlib.Core.Path.{◌≡◌, refl, sym, ap, ◌∙◌, subst}
 use mathlib.Core.Logic.{◌↔◌}
 use mathlib.Core.Bool.{Bool, true, false, not, ◌&&◌, cond}
-use mathlib.Core.List.{List, ◌++◌, append_nil}
+use mathlib.Core.List.{List, ◌++◌, append-nil}
 use native.Mathlib.Omega.{arith}
 use lib.Dec.{T, leb, ltb, leb→le}
 use lib.IntN.{ℤ, pos, negsuc, nat_abs}
@@ -51,21 +51,11 @@ at-most_or_above (negsuc a) (pos b) = refl
 at-most_or_above (negsuc a) (negsuc b) = turned_round b a
 
 module _ (points : List Float) (height : ℤ) where
-  by_tests : {a b d : Bool} → lt_z height (negsuc 32767) ≡ a → lt_z (pos 32767) height ≡ b → all_on_units? points ≡ d → layered? points height ≡ (not a && (not b && d))
-  by_tests p q r =
+  pub in_range : lt_z height (negsuc 32767) ≡ false → lt_z (pos 32767) height ≡ false → {d : Bool} → all_on_units? points ≡ d → d ≡ layered? points height
+  in_range p q r =
       let low = at-most_or_above (negsuc 32767) height ∙ ap not p in
       let high = at-most_or_above height (pos 32767) ∙ ap not q in
-      λ i. low i && (high i && r i)
-
-  pub too_low : lt_z height (negsuc 32767) ≡ true → false ≡ layered? points height
-  too_low p = sym (by_tests p refl refl)
-
-  module _ (low : lt_z height (negsuc 32767) ≡ false) where
-    pub too_high : lt_z (pos 32767) height ≡ true → false ≡ layered? points height
-    too_high q = sym (by_tests low q refl)
-
-    pub in_range : lt_z (pos 32767) height ≡ false → {d : Bool} → all_on_units? points ≡ d → d ≡ layered? points height
-    in_range q r = sym (by_tests low q r)
+      sym (λ i. low i && (high i && r i))
 
   passed-layered : layered? points height ≡ true → Layered points height
   passed-layered e =
@@ -156,7 +146,7 @@ module _ (points : List Float) (corners labels work : List ℕ) (height : ℤ) (
   -- the list is cleared first
   module _ (list blank : List ℕ) (cleared-list : blank ≡ replicate (length list) 0 ++ drop (length list) list) where
     blank-is : blank ≡ replicate (length list) 0
-    blank-is = cleared-list ∙ ap (λ (l : List ℕ). replicate (length list) 0 ++ l) (drop-length list) ∙ append_nil (replicate (length list) 0)
+    blank-is = cleared-list ∙ ap (λ (l : List ℕ). replicate (length list) 0 ++ l) (drop-length list) ∙ append-nil (replicate (length list) 0)
 
     same-room : length blank ≡ length list
     same-room = ap length blank-is ∙ length-replicate (length list) 0

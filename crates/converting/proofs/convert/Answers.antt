@@ -1,30 +1,10 @@
 -- `converting::convert` meets its contract. Assumes nothing.
-use Prim.Native.Nat.{◌≤◌}
 use native.Mathlib.Omega.{arith}
 use Rattle.sheet.specs.Contents.{contents}
 use Rattle.sheet.proofs.Finding.{nothing_said, is_found, few-points, few-triangles}
 use Rattle.writing.proofs.Settling.{leaves}
 use Rattle.converting.proofs.Converting.{leaves_no_edition, leaves_nothing, known, near, leaves-conversion}
-use borrow.Author.Rules.{rules}
 use Rattle.converting.proofs.convert.Goals as goal
-
--- what was found is no more than the largest sheet has
-few-3 : (c : goal.In-Is) → (c.in-Is.n ≤ 128) × (c.in-Is.m ≤ 256)
-few-3 c =
-    let h = c.read_whole.ensures in
-    (few-points _ _ _ _ _ _ _ _ h _ _ _ c.in-Is.is, few-triangles _ _ _ _ _ _ _ _ h _ _ _ c.in-Is.is)
-
--- what was found is no more than the largest sheet has
-few : (c : goal.After-coordinates-3-1) → (c.in-Is.n ≤ 128) × (c.in-Is.m ≤ 256)
-few c =
-    let h = c.read_whole.ensures in
-    (few-points _ _ _ _ _ _ _ _ h _ _ _ c.in-Is.is, few-triangles _ _ _ _ _ _ _ _ h _ _ _ c.in-Is.is)
-
--- what was found is no more than the largest sheet has
-few-2 : (c : goal.After-text-arg-1) → (c.in-Is.n ≤ 128) × (c.in-Is.m ≤ 256)
-few-2 c =
-    let h = c.read_whole.ensures in
-    (few-points _ _ _ _ _ _ _ _ h _ _ _ c.in-Is.is, few-triangles _ _ _ _ _ _ _ _ h _ _ _ c.in-Is.is)
 
 pub returns-then-asked-lt1 : goal.returns-then-asked-lt1
 returns-then-asked-lt1 c =
@@ -38,19 +18,20 @@ pub returns-in_default : goal.returns-in_default
 returns-in_default c = leaves_nothing _ _ _ c.clear.ensures _ (nothing_said _ _ _ _ _ _ _ _ c.read_whole.ensures c.in_default.is)
 
 pub overflow_mul-n : goal.overflow_mul-n
-overflow_mul-n c = omega (arith, (few-3 c).0)
+overflow_mul-n c = omega (arith, few-points _ _ _ _ _ _ _ _ c.read_whole.ensures _ _ _ c.in-Is.is)
 
 pub turn_all-same-requires : goal.turn_all-same-requires
 turn_all-same-requires c =
     let f = is_found _ _ _ _ _ _ _ _ c.read_whole.ensures _ _ _ c.in-Is.is in
     let kept = c.read_whole.auto.coordinates in
-    let g = (few c).0 in
+    let g = few-points _ _ _ _ _ _ _ _ c.read_whole.ensures _ _ _ c.in-Is.is in
     (known _ _ 0 _ _ _ _ _ _ _ _ f, (c.if-asked-lt1.false, c.if-asked-gt2.false), omega arith, near _ _ 0 _ _ _ _ _ _ _ _ f)
 
 pub text-count-requires : goal.text-count-requires
 text-count-requires c =
-    let g = few-2 c in
-    (g.0, g.1, omega (arith, c.read_whole.auto.coordinates, c.turn_all-same.auto.coordinates), omega (arith, c.read_whole.auto.corners), omega (arith, c.read_whole.auto.labels))
+    let n = few-points _ _ _ _ _ _ _ _ c.read_whole.ensures _ _ _ c.in-Is.is in
+    let m = few-triangles _ _ _ _ _ _ _ _ c.read_whole.ensures _ _ _ c.in-Is.is in
+    (n, m, omega (arith, c.read_whole.auto.coordinates, c.turn_all-same.auto.coordinates), omega (arith, c.read_whole.auto.corners), omega (arith, c.read_whole.auto.labels))
 
 pub returns : goal.returns
 returns c =

@@ -6,7 +6,6 @@ use lib.IntN.{ℤ}
 use lib.Signed.{non_neg}
 use Rattle.sheet.proofs.Signs.{back}
 use Rattle.converting.proofs.Turning.{signed_below, signed_above}
-use borrow.Author.Rules.{rules}
 use Rattle.converting.proofs.signed.Goals as goal
 
 pub returns-then-below_zero : goal.returns-then-below_zero

@@ -1,17 +1,7 @@
 -- `converting::turn_all` meets its contract. The loop's invariant: the coordinates below `k` are turned, and the others as they were. Assumes nothing.
-use mathlib.Core.Path.{◌≡◌, refl, sym, ap, ◌∙◌, subst}
-use Prim.Native.Nat.{◌-◌, ◌≤◌}
-use native.Mathlib.Omega.{arith}
-use lib.IntN.{ℤ, pos, nat_abs}
-use lib.ListN.{get_or}
-use mir.Syntax.{w32}
-use mir.Val.{to_z, of_z}
-use Rattle.sheet.specs.Edition.{edition}
-use Rattle.sheet.specs.Conversion.{fits?, in_unit}
-use Rattle.sheet.proofs.Signs.{back}
+use Prim.Native.Nat.{◌-◌}
 use Rattle.converting.specs.Converting.{unit_of}
-use Rattle.converting.proofs.Turning.{Turning, none-turned, next-is, one-turned, all-turned}
-use borrow.Author.Rules.{rules}
+use Rattle.converting.proofs.Turning.{Turning}
 use Rattle.converting.proofs.turn_all.Given as goal
 
 abbrev pub invariant-loop-k : goal.invariant-loop-k

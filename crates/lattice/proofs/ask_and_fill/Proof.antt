@@ -97,7 +97,7 @@ returns : tie.Need-returns
 returns c =
     let e = c.before.before.before.before.before.before.before.before.before.before in
     let s = asked e.before.before in
-    lent-front (field s) (lent s) (held s.sheet_ok.ensures e.before.before.before.before.if-not-sheet_ok.false) e.before.before.before.if-cells-lt4.false e.before.before.if-cells-gt128.false e.before.if-grid-count.false e.if-values-count.false
+    lent-front (field s) (lent s) (held s.sheet_ok.ensures e.before.before.before.before.if-not-sheet_ok.false) (omega arith) e.before.before.if-cells-gt128.false e.before.if-grid-count.false e.if-values-count.false
     c.before.before.before.before.before.before.fill.ensures
 
 pub ask_and_fill_spec : {M : Type 1} → statement M

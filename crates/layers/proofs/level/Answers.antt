@@ -4,7 +4,6 @@ use lib.IntN.{ℤ}
 use lib.Ieee.{binary64, of_int, mul}
 use mir.Syntax.{w32}
 use mir.ValLaws.{to_z-of_z}
-use borrow.Author.Rules.{rules}
 use Rattle.rounding.specs.Fraction.{Is}
 use Rattle.layers.proofs.Plane.{unit, level_holds}
 use Rattle.layers.proofs.level.Goals as goal

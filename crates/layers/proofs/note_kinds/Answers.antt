@@ -1,14 +1,11 @@
 -- `layers::note_kinds` meets its contract: a turn notes a point more. Assumes nothing.
-use Prim.Native.Nat.{ℕ, ◌+◌, ◌*◌, ◌-◌, ◌/◌, ◌≤◌}
+use Prim.Native.Nat.{◌+◌, ◌*◌, ◌/◌}
 use mathlib.Core.Path.{◌≡◌, refl, ◌∙◌, subst}
-use mathlib.Core.List.{List}
 use native.Mathlib.Omega.{arith}
 use lib.ListN.{length, get_or, length-set}
-use lib.Ieee.{Float, nan, lt}
-use borrow.Author.Rules.{rules}
+use lib.Ieee.{nan, lt}
 use Rattle.layers.specs.Stages.{KindsNoted}
 use Rattle.layers.proofs.Traced.{noted-first, noted_turn, bit_one}
-use Rattle.layers.proofs.note_kinds.Invariants.{Noting}
 use Rattle.layers.proofs.note_kinds.Goals as goal
 
 pub loop-v-init : goal.loop-v-init

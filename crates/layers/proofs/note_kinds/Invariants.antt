@@ -1,13 +1,10 @@
 -- `layers::note_kinds` meets its contract: a turn notes a point more. Assumes nothing.
-use Prim.Native.Nat.{ℕ, ◌+◌, ◌*◌, ◌-◌, ◌/◌, ◌≤◌}
-use mathlib.Core.Path.{◌≡◌, refl, ◌∙◌, subst}
+use Prim.Native.Nat.{ℕ, ◌-◌, ◌/◌, ◌≤◌}
+use mathlib.Core.Path.{◌≡◌}
 use mathlib.Core.List.{List}
-use native.Mathlib.Omega.{arith}
-use lib.ListN.{length, get_or, length-set}
-use lib.Ieee.{Float, nan, lt}
-use borrow.Author.Rules.{rules}
+use lib.ListN.{length}
+use lib.Ieee.{Float}
 use Rattle.layers.specs.Stages.{KindsNoted}
-use Rattle.layers.proofs.Traced.{noted-first, noted_turn, bit_one}
 use Rattle.layers.proofs.note_kinds.Given as goal
 
 pub record Noting (points : List Float) (level : Float) (base : ℕ) (w₀ w : List ℕ) (v : ℕ) : Type 0 where

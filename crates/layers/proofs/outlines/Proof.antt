@@ -5,7 +5,6 @@ use lib.IntN.{ℤ}
 use mir.Syntax.{w32}
 use mir.Val.{to_z, of_z}
 use mir.ValLaws.{to_z-of_z}
-use borrow.Author.Tests.{not_true, not-false}
 use Rattle.layers.specs.Layer.{layered?}
 use Rattle.layers.specs.Stages.{Crossable, LayerTraced}
 use Rattle.layers.proofs.Questions.{at_first, at_forty, crossable, at_end}
@@ -54,7 +53,7 @@ returns-in-Refused : tie.Need-returns-in-Refused
 returns-in-Refused c =
     let a = c.before.before.before in
     let s = start a in
-    at_first s.args.points.now s.args.corners.now s.args.labels.now s.args.work.now s.args.height a.admitted.new.work _ a.admitted.ensures s.args.outline.now (emptied a).clear.new.work (emptied a).clear.ensures c.before.in-Refused.is
+    at_first s.args.points.now s.args.corners.now s.args.labels.now s.args.work.now s.args.height a.admitted.new.work _ a.admitted.ensures s.args.outline.now (emptied a).clear.new.work (emptied a).clear.ensures c.in-Refused.is
 
 enum_told-1 : tie.Need-enum_told-1
 enum_told-1 c = search rules
@@ -73,7 +72,7 @@ returns-then-not-layered c =
     let t = c.before.before in
     let a = admitted t in
     let s = start a in
-    at_forty s.args.points.now s.args.corners.now s.args.labels.now s.args.work.now s.args.height a.admitted.new.1.1.1.0 _ a.admitted.ensures s.args.outline.now (emptied a).clear.new.0 (emptied a).clear.ensures t.in_default.is
+    at_forty s.args.points.now s.args.corners.now s.args.labels.now s.args.work.now s.args.height a.admitted.new.work _ a.admitted.ensures s.args.outline.now (emptied a).clear.new.work (emptied a).clear.ensures t.in_default.is
     (answered c.before ∙ c.if-not-layered.true)
 
 trace-found-requires : tie.Need-trace-found-requires
@@ -82,8 +81,8 @@ trace-found-requires c κs =
     let t = told e in
     let a = admitted t in
     let s = start a in
-    subst (λ (z : ℤ). Crossable s.args.points.now s.args.corners.now a.admitted.new.1.1.1.0 z) (sym (read s))
-    (crossable s.args.points.now s.args.corners.now s.args.labels.now s.args.work.now s.args.height a.admitted.new.1.1.1.0 _ a.admitted.ensures t.in_default.is
+    subst (λ (z : ℤ). Crossable s.args.points.now s.args.corners.now a.admitted.new.work z) (sym (read s))
+    (crossable s.args.points.now s.args.corners.now s.args.labels.now s.args.work.now s.args.height a.admitted.new.work _ a.admitted.ensures t.in_default.is
     (answered e.before ∙ e.if-not-layered.false) a.admitted.auto.work)
 
 clear_needed-requires : tie.Need-clear_needed-requires
@@ -93,7 +92,7 @@ clear_needed-requires c κs =
     let t = told e in
     let a = admitted t in
     let s = start a in
-    let l = (crossable s.args.points.now s.args.corners.now s.args.labels.now s.args.work.now s.args.height a.admitted.new.1.1.1.0 _ a.admitted.ensures t.in_default.is
+    let l = (crossable s.args.points.now s.args.corners.now s.args.labels.now s.args.work.now s.args.height a.admitted.new.work _ a.admitted.ensures t.in_default.is
     (answered e.before ∙ e.if-not-layered.false) a.admitted.auto.work).lent in
     (l.few, omega (arith, l.points), omega (arith, l.room, r.trace-found.auto.work))
 
@@ -111,10 +110,10 @@ returns c =
     let t = told e in
     let a = admitted t in
     let s = start a in
-    at_end s.args.points.now s.args.corners.now s.args.labels.now s.args.work.now s.args.height a.admitted.new.1.1.1.0 _ a.admitted.ensures s.args.outline.now (emptied a).clear.new.0 (emptied a).clear.ensures t.in_default.is
+    at_end s.args.points.now s.args.corners.now s.args.labels.now s.args.work.now s.args.height a.admitted.new.work _ a.admitted.ensures s.args.outline.now (emptied a).clear.new.work (emptied a).clear.ensures t.in_default.is
     (answered e.before ∙ e.if-not-layered.false)
     r.trace-found.new.work r.trace-found.new.outline r.trace-found.result
-    (subst (λ (z : ℤ). LayerTraced s.args.points.now s.args.corners.now a.admitted.new.1.1.1.0 r.trace-found.new.work z (emptied a).clear.new.0 r.trace-found.new.outline r.trace-found.result) (read s) r.trace-found.ensures) _ d.clear_needed.ensures
+    (subst (λ (z : ℤ). LayerTraced s.args.points.now s.args.corners.now a.admitted.new.work r.trace-found.new.work z (emptied a).clear.new.work r.trace-found.new.outline r.trace-found.result) (read s) r.trace-found.ensures) _ d.clear_needed.ensures
 
 pub outlines_spec : {M : Type 1} → statement M
 outlines_spec =

@@ -1,6 +1,5 @@
 -- `solve::edge_scale` meets its contract, by those of the functions that it calls. Assumes nothing.
 use Rattle.solve.specs.Solve.{edge_scale}
-use borrow.Author.Rules.{rules}
 use Rattle.solve.proofs.edge_scale.Goals as goal
 
 pub returns : goal.returns

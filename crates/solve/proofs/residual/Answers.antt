@@ -1,6 +1,5 @@
 -- `solve::residual` meets its contract. Assumes nothing.
 use Rattle.solve.specs.Solve.{residual}
-use borrow.Author.Rules.{rules}
 use Rattle.solve.proofs.residual.Goals as goal
 
 pub returns : goal.returns

@@ -1,7 +1,6 @@
 -- `solve::solve` meets its contract: each way out is one case of the definition. Assumes nothing.
 use mathlib.Core.Path.{ap, ◌∙◌}
 use lib.Ieee.{Float}
-use borrow.Author.Rules.{rules}
 use Rattle.float.specs.Point.{less}
 use Rattle.field.proofs.Checks.{failed, held}
 use Rattle.lattice.specs.Values.{tolerance}

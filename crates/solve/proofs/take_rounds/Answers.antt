@@ -1,12 +1,11 @@
 -- `solve::take_rounds` meets its contract: what the rounds that are left make of the bracket is what all rounds make of the first one. Assumes nothing.
-use mathlib.Core.Path.{◌≡◌, sym, ap, ◌∙◌}
-use Prim.Native.Nat.{◌+◌, ◌-◌, ◌≤◌}
+use mathlib.Core.Path.{sym, ap, ◌∙◌}
+use Prim.Native.Nat.{◌+◌}
 use native.Mathlib.Omega.{arith}
 use lib.Ieee as Ieee
 use lib.Ieee.{Float}
-use borrow.Author.Rules.{rules}
 use Rattle.field.proofs.Checks.{failed, held}
-use Rattle.solve.specs.Solve.{residual, from_round}
+use Rattle.solve.specs.Solve.{residual}
 use Rattle.solve.proofs.Turns.{onward, begins, turn_not_finite, turn_found, turn_again, turn_last}
 use Rattle.solve.proofs.take_rounds.Goals as goal
 

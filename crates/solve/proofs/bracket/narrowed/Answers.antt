@@ -2,7 +2,6 @@
 use mathlib.Core.Path.{sym, ap₂, ◌∙◌}
 use lib.Ieee as Ieee
 use Rattle.solve.proofs.Turns.{low_moves, high_moves}
-use borrow.Author.Rules.{rules}
 use Rattle.solve.proofs.bracket.narrowed.Goals as goal
 
 pub returns-then-signum : goal.returns-then-signum

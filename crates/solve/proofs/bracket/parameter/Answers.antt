@@ -3,7 +3,6 @@ use mathlib.Core.Path.{◌∙◌}
 use native.Mathlib.Omega.{arith}
 use Rattle.field.proofs.Checks.{failed, held}
 use Rattle.solve.proofs.Turns.{late, fourth, secant_not_finite, secant-low, secant-high, secant-inside}
-use borrow.Author.Rules.{rules}
 use Rattle.solve.proofs.bracket.parameter.Goals as goal
 
 pub returns-then-round-ge12 : goal.returns-then-round-ge12

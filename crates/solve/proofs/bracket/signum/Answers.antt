@@ -3,17 +3,11 @@ use mathlib.Core.Path.{sym, subst}
 use mathlib.Core.Bool.{true, false}
 use native.Mathlib.Omega.{arith}
 use lib.Dec.{T}
-use lib.Ieee.{binary64, fits, to_bits, top}
+use lib.Ieee.{binary64, to_bits, top}
 use borrow.Author.Tests.{le-leb, lt-leb}
 use Rattle.float.proofs.Cases.{no_nan}
 use Rattle.solve.proofs.Turns.{signum_nan, signum_bits}
 use Rattle.solve.proofs.bracket.signum.Goals as goal
-
-held-2 : (c : goal.Then-x-ge9223372036854775808) → T (fits binary64 c.args.x)
-held-2 c = subst T (sym c.well_formed.0.1) tt
-
-held : (c : goal.Else-x-ge9223372036854775808) → T (fits binary64 c.args.x)
-held c = subst T (sym c.well_formed.0.1) tt
 
 pub returns-then-x : goal.returns-then-x
 returns-then-x c = signum_nan c.args.x c.if-x.true
@@ -22,7 +16,7 @@ pub float_to_bits-x : goal.float_to_bits-x
 float_to_bits-x c = no_nan c.args.x c.if-x.false
 
 pub returns-then-x-ge9223372036854775808 : goal.returns-then-x-ge9223372036854775808
-returns-then-x-ge9223372036854775808 c = signum_bits c.args.x (held-2 c) c.if-x.false true (le-leb (top binary64) (to_bits binary64 c.args.x) (omega arith))
+returns-then-x-ge9223372036854775808 c = signum_bits c.args.x (subst T (sym c.well_formed.0.1) tt) c.if-x.false true (le-leb (top binary64) (to_bits binary64 c.args.x) (omega arith))
 
 pub returns : goal.returns
-returns c = signum_bits c.args.x (held c) c.if-x.false false (lt-leb (top binary64) (to_bits binary64 c.args.x) (omega arith))
+returns c = signum_bits c.args.x (subst T (sym c.well_formed.0.1) tt) c.if-x.false false (lt-leb (top binary64) (to_bits binary64 c.args.x) (omega arith))
