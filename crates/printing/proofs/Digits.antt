@@ -4,7 +4,7 @@ use native.Mathlib.Nat.{pow-suc, suc-mul}
 use native.Mathlib.Omega.{arith}
 use mathlib.Core.Path.{◌≡◌, refl, sym, ap, ◌∙◌}
 use mathlib.Core.Bool.{Bool, cond}
-use mathlib.Core.List.{List, [], ◌∷◌, ◌++◌, append_assoc, append_nil}
+use mathlib.Core.List.{List, [], ◌∷◌, ◌++◌, append_assoc, append-nil}
 use lib.Pow.{pow-add}
 use borrow.Author.Tests.{lt-ltb, le-ltb}
 use Rattle.writing.specs.Stages.{Put}
@@ -61,4 +61,4 @@ row_more {v} {b} {i} k h e d r p =
 pub row_end : {v : ℕ} {l l' : List ℕ} {at next : ℕ} (i : ℕ) → 16 ≤ i → Row v i l l' at next → Put (hexadecimal 16 v) 16 l l' at next
 row_end {v} i h r =
     let none : 16 - i ≡ 0 = omega arith in
-    said_as (hexadecimal 16 v) 16 (sym (append_nil r.front) ∙ ap (λ (m : ℕ). r.front ++ hexadecimal m v) (sym none) ∙ r.whole) r.few r.put
+    said_as (hexadecimal 16 v) 16 (sym (append-nil r.front) ∙ ap (λ (m : ℕ). r.front ++ hexadecimal m v) (sym none) ∙ r.whole) r.few r.put
