@@ -43,9 +43,9 @@ module _ (qs : List Float) (ns : List ℕ) (levels : List Float) (n : ℕ) (grid
       ∙ ap (λ (l : Float). solve (residual qs ns (point_at grid e.node) (point_at grid (step_end n e.node e.step)) l) l (less (value_at values e.node) l) (less (value_at values j) l)) el
       ∙ ap (λ (m : ℕ). solve (residual qs ns (point_at grid e.node) (point_at grid (step_end n e.node e.step)) (level_in levels e.label)) (level_in levels e.label) (less (value_at values e.node) (level_in levels e.label)) (less (value_at values m) (level_in levels e.label))) ej
 
-  pub is_cut : (p : Point) (w : Bool) → p ≡ cut_point a b s.cut → w ≡ is_cut s.cut → ◌≡◌ {A = EdgeCut} (record { point = p; whole = w; taken = s.taken }) (edge_cut qs ns levels n grid values e)
+  pub edge_is_cut : (p : Point) (w : Bool) → p ≡ cut_point a b s.cut → w ≡ is_cut s.cut → ◌≡◌ {A = EdgeCut} (record { point = p; whole = w; taken = s.taken }) (edge_cut qs ns levels n grid values e)
   unfolding edge_cut cut_in
-  is_cut p w ep ew =
+  edge_is_cut p w ep ew =
       same_cut
       (ep ∙ ap (λ (v : Point). cut_point v b s.cut) ea ∙ ap (λ (v : Point). cut_point (point_at grid e.node) v s.cut) second ∙ ap (λ (v : Solved). cut_point (point_at grid e.node) (point_at grid (step_end n e.node e.step)) v.cut) is_solved)
       (ew ∙ ap (λ (v : Solved). is_cut v.cut) is_solved)

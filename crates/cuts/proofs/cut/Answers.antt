@@ -1,6 +1,5 @@
 -- `cuts::cut` meets its contract. Assumes nothing.
 use native.Mathlib.Omega.{arith}
-use borrow.Author.Rules.{rules}
 use Rattle.cuts.proofs.Answering.{cut_room_lem, cuts_called}
 use Rattle.cuts.proofs.Passing.{few_cut}
 use Rattle.cuts.proofs.cut.Goals as goal

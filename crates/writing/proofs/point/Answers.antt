@@ -22,6 +22,6 @@ pub returns : goal.returns
 returns c =
     let p = list_point c.args.coordinates.now c.args.k in
     point-put p
-    (same_number _ p.x 32 (back p.x p.x refl c.x-1.given) c.coordinate-i.ensures)
-    (same_number _ p.y 32 (back p.y p.y refl c.y-1.given) c.coordinate-j.ensures)
-    (same_number _ p.z 10 (back p.z p.z refl c.z-1.given) c.coordinate.ensures)
+    (same_number _ p.x 32 (back p.x p.x refl (omega arith)) c.coordinate-i.ensures)
+    (same_number _ p.y 32 (back p.y p.y refl (omega arith)) c.coordinate-j.ensures)
+    (same_number _ p.z 10 (back p.z p.z refl (omega arith)) c.coordinate.ensures)

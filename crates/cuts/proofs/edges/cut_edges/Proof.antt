@@ -3,6 +3,7 @@ use Prim.Native.Nat.{◌-◌}
 use native.Mathlib.Omega.{arith}
 use lib.ListN.{length-set}
 use borrow.Author.Rules.{rules}
+use borrow.Author.Tests.{not-true, not-false}
 use Rattle.float.specs.declared.Point.{Point}
 use Rattle.field.proofs.Checks.{failed, held}
 use Rattle.lattice.specs.Edges.{Edge}
@@ -52,7 +53,7 @@ returns-then-not-cut c =
     let s = began r.before.before.before.before in
     let a = s.args in
     let whole = whole_is a.coefficients.now a.powers.now a.levels.now a.n a.grid.now a.values.now (edge_in a.edges.now l.e) _ r.cut_edge-cut.ensures in
-    λ es q. turning_37 (solved s) (cut s) a.edges.now a.cuts.now l.invariant _ es q r.before.loop-e-test.true (failed whole c.if-not-cut.true)
+    λ es q. turning_37 (solved s) (cut s) a.edges.now a.cuts.now l.invariant _ es q r.before.loop-e-test.true (failed whole (not-true _ c.if-not-cut.true))
 
 overflow_mul-cuts : tie.Need-overflow_mul-cuts invariant-loop decreases-loop
 overflow_mul-cuts c = search rules
@@ -116,7 +117,7 @@ loop-e-preserved c =
     (point-is a.coefficients.now a.powers.now a.levels.now a.n a.grid.now a.values.now e _ r.cut_edge-cut.ensures)
     (taken_is a.coefficients.now a.powers.now a.levels.now a.n a.grid.now a.values.now e _ r.cut_edge-cut.ensures)
     (taken-few a.coefficients.now a.powers.now a.levels.now a.n a.grid.now a.values.now e _ r.cut_edge-cut.ensures)
-    (held (whole_is a.coefficients.now a.powers.now a.levels.now a.n a.grid.now a.values.now e _ r.cut_edge-cut.ensures) f.if-not-cut.false)
+    (held (whole_is a.coefficients.now a.powers.now a.levels.now a.n a.grid.now a.values.now e _ r.cut_edge-cut.ensures) (not-false _ f.if-not-cut.false))
 
 shape_of-cuts : tie.Need-shape_of-cuts invariant-loop decreases-loop
 shape_of-cuts c = c.before.loop-e.invariant.size

@@ -1,6 +1,5 @@
 -- `cuts::edges::cut_point` meets its contract. Assumes nothing.
 use Rattle.cuts.specs.Edges.{cut_point}
-use borrow.Author.Rules.{rules}
 use Rattle.cuts.proofs.edges.cut_point.Goals as goal
 
 pub returns-in-First : goal.returns-in-First

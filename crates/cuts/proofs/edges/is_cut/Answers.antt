@@ -1,6 +1,5 @@
 -- `cuts::edges::is_cut` meets its contract. Assumes nothing.
 use Rattle.cuts.specs.Edges.{is_cut}
-use borrow.Author.Rules.{rules}
 use Rattle.cuts.proofs.edges.is_cut.Goals as goal
 
 pub returns-in-First : goal.returns-in-First

@@ -1,6 +1,5 @@
 -- `cuts::edges::level_of` meets its contract. Assumes nothing.
 use Rattle.cuts.proofs.Cutting.{upper_level_lem, lower_level_lem}
-use borrow.Author.Rules.{rules}
 use Rattle.cuts.proofs.edges.level_of.Goals as goal
 
 pub returns-then-label-eq0 : goal.returns-then-label-eq0
