@@ -73,6 +73,9 @@ module _ (f : SampledField) where
     pub few-edges : m ≤ 30053646
     few-edges = (small-counts f lent n m (sym fronts.answer)).1
 
+    pub few-nodes : n ≤ 2146689
+    few-nodes = (small-counts f lent n m (sym fronts.answer)).0
+
     pub at-edges : AtEdges (per_side f.cells) (take (n * 3) after.grid) (take n after.values) (take (m * 3) after.edges)
     at-edges =
         subst (λ (g : List Float). AtEdges (per_side f.cells) g (take n after.values) (take (m * 3) after.edges)) (sym fronts.grid_front)

@@ -1,5 +1,5 @@
 -- The laws of the printed check. Assumes nothing.
-use Prim.Native.Nat.{ℕ, ◌+◌, ◌-◌, ◌≤◌, ◌<◌}
+use Prim.Native.Nat.{ℕ, ◌-◌, ◌≤◌, ◌<◌}
 use native.Mathlib.Omega.{arith}
 use mathlib.Core.Path.{◌≡◌, sym, ap, ◌∙◌, subst}
 use mathlib.Core.Bool.{Bool, true, false, not}
@@ -14,7 +14,6 @@ use Rattle.checking.specs.declared.Verdict.TheVariants.{Accepted}
 use Rattle.sheet.specs.Text.{decimal, line}
 use Rattle.sheet.specs.Edition.{edition, IsEdition}
 use Rattle.sheet.specs.Sheet.{Sheet}
-use Rattle.sheet.specs.Contents as Contents
 use Rattle.sheet.specs.Contents.{Contents, Says, contents}
 use Rattle.sheet.specs.Conversion.{Converted}
 use Rattle.sheet.specs.Laws.{Exact}

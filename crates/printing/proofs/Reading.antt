@@ -1,5 +1,5 @@
 -- A sheet that was read: it fits the lists, what they start with is what it says, and the verdict on that is the one on the text. Assumes nothing.
-use Prim.Native.Nat.{ℕ, ◌+◌, ◌*◌, ◌≤◌}
+use Prim.Native.Nat.{ℕ, ◌*◌, ◌≤◌}
 use native.Mathlib.Omega.{arith}
 use mathlib.Core.Path.{◌≡◌, refl, sym, ap, ◌∙◌}
 use mathlib.Core.Bool.{Bool, true, cond}
@@ -13,7 +13,6 @@ use Rattle.checking.specs.Validate.{validated}
 use Rattle.checking.specs.declared.Verdict.TheVariants.{Refused}
 use Rattle.sheet.specs.Sheet.{Point, Sheet, places_of, corners_of, labels_of}
 use Rattle.sheet.specs.Edition.{edition}
-use Rattle.sheet.specs.Contents as Contents
 use Rattle.sheet.specs.Contents.{Contents, contents}
 use Rattle.sheet.proofs.Stores.{length-corners, length-labels}
 use Rattle.sheet.proofs.Contents.{contents-laws}

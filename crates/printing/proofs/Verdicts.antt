@@ -29,7 +29,6 @@ use Rattle.checking.specs.declared.Verdict.{Verdict}
 use Rattle.checking.specs.declared.Verdict.TheVariants.{Accepted, Refused}
 use Rattle.checking.proofs.Cases.{by_first, no_triangles}
 use Rattle.checking.proofs.Laws.{accepted-lent, sound}
-use Rattle.sheet.specs.Contents as Contents
 use Rattle.sheet.specs.Contents.{Contents}
 use Rattle.printing.specs.Printed.{verdict_of, verdict_on}
 

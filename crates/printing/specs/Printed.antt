@@ -11,7 +11,6 @@ use Rattle.checking.specs.declared.Verdict.TheVariants.{Refused}
 use Rattle.sheet.specs.Text.{bytes, decimal, line}
 use Rattle.sheet.specs.Edition.{edition}
 use Rattle.sheet.specs.Sheet.{places_of, corners_of, labels_of}
-use Rattle.sheet.specs.Contents as Contents
 use Rattle.sheet.specs.Contents.{Contents, contents}
 
 -- ---- the verdict

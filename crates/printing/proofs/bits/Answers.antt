@@ -1,6 +1,5 @@
 -- `printing::bits` meets its contract. Assumes nothing.
 use Rattle.writing.proofs.Puts.{both}
-use borrow.Author.Rules.{rules}
 use Rattle.printing.proofs.bits.Goals as goal
 
 pub returns : goal.returns

@@ -1,6 +1,5 @@
 -- `printing::digit` meets its contract. Assumes nothing.
 use Rattle.printing.proofs.Digits.{numeral, letter}
-use borrow.Author.Rules.{rules}
 use Rattle.printing.proofs.digit.Goals as goal
 
 pub returns-then-d-lt10 : goal.returns-then-d-lt10

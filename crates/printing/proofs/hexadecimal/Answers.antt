@@ -1,10 +1,8 @@
 -- `printing::hexadecimal` meets its contract. The loop's invariant: the first `i` digits are written. Assumes nothing.
-use mathlib.Core.Path.{◌≡◌, refl, ◌∙◌}
-use Prim.Native.Nat.{◌-◌}
+use mathlib.Core.Path.{refl, ◌∙◌}
 use native.Mathlib.Omega.{arith}
-use lib.ListN.{length}
 use Rattle.writing.proofs.Puts.{reach}
-use Rattle.printing.proofs.Digits.{Row, row-start, row_more, row_end}
+use Rattle.printing.proofs.Digits.{row-start, row_more, row_end}
 use Rattle.printing.proofs.hexadecimal.Goals as goal
 
 pub loop-i-init : goal.loop-i-init

@@ -1,10 +1,8 @@
 -- `printing::hexadecimal` meets its contract. The loop's invariant: the first `i` digits are written. Assumes nothing.
-use mathlib.Core.Path.{◌≡◌, refl, ◌∙◌}
+use mathlib.Core.Path.{◌≡◌}
 use Prim.Native.Nat.{◌-◌}
-use native.Mathlib.Omega.{arith}
 use lib.ListN.{length}
-use Rattle.writing.proofs.Puts.{reach}
-use Rattle.printing.proofs.Digits.{Row, row-start, row_more, row_end}
+use Rattle.printing.proofs.Digits.{Row}
 use Rattle.printing.proofs.hexadecimal.Given as goal
 
 abbrev pub invariant-loop-i : goal.invariant-loop-i

@@ -1,6 +1,5 @@
 -- `printing::lines` meets its contract. Assumes nothing.
 use Rattle.printing.proofs.Texts.{text-put}
-use borrow.Author.Rules.{rules}
 use Rattle.printing.proofs.lines.Goals as goal
 
 pub returns : goal.returns

@@ -3,7 +3,6 @@ use mathlib.Core.Path.{sym, ◌∙◌, subst}
 use Rattle.sheet.specs.Contents.{contents}
 use Rattle.printing.proofs.Verdicts.{Values, text-values}
 use Rattle.printing.proofs.Texts.{prints, prints_refused}
-use borrow.Author.Rules.{rules}
 use Rattle.printing.proofs.print.Goals as goal
 
 pub lines-requires : goal.lines-requires
