@@ -1,5 +1,5 @@
 -- Question 40 by its tests, all questions in turn, and the whole: each way out of the code. Assumes nothing.
-use Prim.Native.Nat.{ℕ, ◌*◌, ◌/◌, ◌≤◌}
+use Prim.Native.Nat.{ℕ, ◌+◌, ◌-◌, ◌*◌, ◌/◌, ◌≤◌}
 use mathlib.Core.Path.{◌≡◌, refl, sym, ap, ◌∙◌, subst}
 use mathlib.Core.Logic.{◌↔◌}
 use mathlib.Core.Bool.{Bool, true, false, not, ◌&&◌, cond}
@@ -51,11 +51,21 @@ at-most_or_above (negsuc a) (pos b) = refl
 at-most_or_above (negsuc a) (negsuc b) = turned_round b a
 
 module _ (points : List Float) (height : ℤ) where
-  pub in_range : lt_z height (negsuc 32767) ≡ false → lt_z (pos 32767) height ≡ false → {d : Bool} → all_on_units? points ≡ d → d ≡ layered? points height
-  in_range p q r =
+  by_tests : {a b d : Bool} → lt_z height (negsuc 32767) ≡ a → lt_z (pos 32767) height ≡ b → all_on_units? points ≡ d → layered? points height ≡ (not a && (not b && d))
+  by_tests p q r =
       let low = at-most_or_above (negsuc 32767) height ∙ ap not p in
       let high = at-most_or_above height (pos 32767) ∙ ap not q in
-      sym (λ i. low i && (high i && r i))
+      λ i. low i && (high i && r i)
+
+  pub too_low : lt_z height (negsuc 32767) ≡ true → false ≡ layered? points height
+  too_low p = sym (by_tests p refl refl)
+
+  module _ (low : lt_z height (negsuc 32767) ≡ false) where
+    pub too_high : lt_z (pos 32767) height ≡ true → false ≡ layered? points height
+    too_high q = sym (by_tests low q refl)
+
+    pub in_range : lt_z (pos 32767) height ≡ false → {d : Bool} → all_on_units? points ≡ d → d ≡ layered? points height
+    in_range q r = sym (by_tests low q r)
 
   passed-layered : layered? points height ≡ true → Layered points height
   passed-layered e =
