@@ -1,4 +1,5 @@
 -- `nearest::compare` meets its contract: the corner is passed over, or meets each probe in turn (`proofs/Turns`). Assumes nothing.
+use native.Mathlib.Omega.{arith}
 use Rattle.nearest.proofs.Turns.{passed_over, none-met, corner-there, distance-there, one-met, all-met}
 use Rattle.nearest.proofs.Exact.{distance-holds}
 use Rattle.nearest.proofs.compare.Goals as goal
@@ -8,7 +9,7 @@ returns-then-head-eq0 c = passed_over c.args.points.now c.args.work.now c.args.p
 
 pub loop-i-init : goal.loop-i-init
 loop-i-init c =
-    (c.point-p.ensures, none-met c.args.points.now c.args.work.now c.args.probes.now c.args.v c.args.nearest.now c.args.least.now c.requires.laid.0 c.requires.laid.1 c.if-head-eq0.false c.requires.bests_kept)
+    (c.point-p.ensures, none-met c.args.points.now c.args.work.now c.args.probes.now c.args.v c.args.nearest.now c.args.least.now c.requires.laid.0 c.requires.laid.1 (omega arith) c.requires.bests_kept)
 
 pub consider-requires : goal.consider-requires
 consider-requires c = (corner-there _ _ _ _ c.loop-i.invariant.1 c.loop-i-test.true, distance-there _ _ _ _ c.loop-i.invariant.1 c.loop-i-test.true)

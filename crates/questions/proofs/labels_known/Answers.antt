@@ -19,7 +19,7 @@ returns-then-l-gt7 c =
 
 pub loop-i-preserved : goal.loop-i-preserved
 loop-i-preserved c =
-    (search rules, c.loop-i.invariant.1 ∙ all-on (λ (c : ℕ). leb c 7) 0 _ _ c.loop-i-test.true (le-leb _ 7 c.if-l-gt7.false))
+    (search rules, c.loop-i.invariant.1 ∙ all-on (λ (c : ℕ). leb c 7) 0 _ _ c.loop-i-test.true (le-leb _ 7 (omega arith)))
 
 pub returns : goal.returns
 returns c = sym (c.loop-i.invariant.1 ∙ all_done (λ (l : ℕ). leb l 7) _ _ c.loop-i-test.false)

@@ -32,5 +32,5 @@ below-z-requires c =
 pub returns : goal.returns
 returns c =
     let w = c.in-Is.ensures in
-    let e : c.in-Is.size ≡ suc (c.in-Is.size - 1) = omega (arith, c.if-size-eq0.false) in
-    (c.in-Is.size - 1, subst (λ (k : ℕ). k ≤ c.args.most) e w.0, subst (λ (k : ℕ). Stands c.args.text.now c.args.at (ended (decimal k) c.args.end) c.in-Is.next) e w.1, ap (λ (z : ℤ). set c.args.coordinates.now c.args.k z) (back c.below-z.result (negsuc (c.in-Is.size - 1)) (c.below-z.ensures ∙ minus-some c.in-Is.size (omega (arith, c.if-size-eq0.false))) (omega (arith, w.0))))
+    let e : c.in-Is.size ≡ suc (c.in-Is.size - 1) = omega arith in
+    (c.in-Is.size - 1, subst (λ (k : ℕ). k ≤ c.args.most) e w.0, subst (λ (k : ℕ). Stands c.args.text.now c.args.at (ended (decimal k) c.args.end) c.in-Is.next) e w.1, ap (λ (z : ℤ). set c.args.coordinates.now c.args.k z) (back c.below-z.result (negsuc (c.in-Is.size - 1)) (c.below-z.ensures ∙ minus-some c.in-Is.size (omega arith)) (omega (arith, w.0))))

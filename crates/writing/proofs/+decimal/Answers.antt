@@ -1,4 +1,5 @@
 -- `writing::decimal` meets its contract. Assumes nothing.
+use native.Mathlib.Omega.{arith}
 use Rattle.writing.proofs.Parts.{one-digit, more-digits}
 use Rattle.writing.proofs.+decimal.Goals as goal
 
@@ -7,4 +8,4 @@ returns-then-v-lt10 t c = one-digit c.args.v c.digit.result c.if-v-lt10.true c.d
 
 pub returns : goal.returns
 returns t c =
-    more-digits c.args.v c.digit-2.result c.ranges.v.fits c.if-v-lt10.false c.digit-2.ensures c.decimal-next.ensures c.put-2.ensures
+    more-digits c.args.v c.digit-2.result c.ranges.v.fits (omega arith) c.digit-2.ensures c.decimal-next.ensures c.put-2.ensures

@@ -34,6 +34,6 @@ returns-then-not-within c =
 pub returns : goal.returns
 returns c =
     let near = ap (λ (n : ℕ). every (coordinate_in_range? n) c.args.coordinates.now) (sym c.most.ensures) ∙ sym c.within.ensures ∙ c.if-not-within.false in
-    let all = passed _ _ _ _ (c.if-number-lt1.false, c.if-number-gt2.false) c.if-n-coordinates.false c.if-n-gt128.false c.if-m-gt256.false c.if-corners-m.false near in
+    let all = passed _ _ _ _ (c.if-number-lt1.false, omega arith) c.if-n-coordinates.false c.if-n-gt128.false c.if-m-gt256.false c.if-corners-m.false near in
     leaves-text _ _ _ _ _ _ _ all
     (leaves _ _ _ _ _ _ c.clear.ensures c.text-count.ensures _ _ _ c.settled.ensures)
