@@ -19,20 +19,20 @@ pub blank_starts : {A : Type 0} (z : A) (l : List A) (n : ℕ) → n ≤ length 
 blank_starts z l n h = record { low = omega arith; high = h; size = refl; front = refl; freed = λ j p q. absurd (omega arith) }
 
 module _ {A : Type 0} (z : A) (l : List A) (n : ℕ) (cur : List A) (k : ℕ) (I : Blanking z l n cur k) where
-  pub blank_turn : k < length cur → Blanking z l n (set cur k z) (k + 1)
+  pub blank_turn : k < length l → Blanking z l n (set cur k z) (k + 1)
   blank_turn h = record {
     low = let p = I.low in omega arith;
-    high = let p = I.size in omega arith;
+    high = omega arith;
     size = length-set cur k z ∙ I.size;
     front = take-set-le n cur k z I.low ∙ I.front;
     freed = λ j p q. pick j p q (ℕ_discrete j k);
   }
     where
       pick : (j : ℕ) → n ≤ j → j < k + 1 → Dec (j ≡ k) → get_or (set cur k z) j z ≡ z
-      pick j p q (yes e) = ap (λ (i : ℕ). get_or (set cur k z) i z) e ∙ get_or-set_same cur k z z h
+      pick j p q (yes e) = ap (λ (i : ℕ). get_or (set cur k z) i z) e ∙ get_or-set_same cur k z z (let p = I.size in omega arith)
       pick j p q (no e) = get_or-set_other cur k j z z e ∙ I.freed j p (omega (arith, e))
 
-  pub blank-ends : length cur ≤ k → cur ≡ blank z l n
+  pub blank-ends : length l ≤ k → cur ≡ blank z l n
   blank-ends h = sym (take-append-drop n cur) ∙ ap (λ (t : List A). t ++ drop n cur) I.front ∙ ap (λ (t : List A). take n l ++ t) rest
     where
       long : length (drop n cur) ≡ length (replicate (length l - n) z)

@@ -6,35 +6,43 @@ ghost use Rattle.std.specs.Float.{binary64};
 ghost use Rattle.std.specs.Float.Ieee.{of_bits};
 ghost use Rattle.blank.specs.Blank.{blank};
 
-pub fn blank_words(words: &mut [u32], from: usize)
-    requires { from ≤ length words.old }
-    ensures { words.new ≡ blank 0 words.old from }
-{
-    let mut k = from;
-    while k < words.len() {
-        words[k] = 0;
-        k += 1;
+pub trait Zero: Copy {
+    ghost zero: { Self };
+
+    fn zero() -> Self
+        ensures { result ≡ zero };
+}
+
+impl Zero for u8 {
+    ghost zero = { 0 };
+
+    fn zero() -> u8 {
+        0u8
     }
 }
 
-pub fn blank_bytes(bytes: &mut [u8], from: usize)
-    requires { from ≤ length bytes.old }
-    ensures { bytes.new ≡ blank 0 bytes.old from }
-{
-    let mut k = from;
-    while k < bytes.len() {
-        bytes[k] = 0;
-        k += 1;
+impl Zero for u32 {
+    ghost zero = { 0 };
+
+    fn zero() -> u32 {
+        0u32
     }
 }
 
-pub fn blank_numbers(numbers: &mut [f64], from: usize)
-    requires { from ≤ length numbers.old }
-    ensures { numbers.new ≡ blank (of_bits binary64 0) numbers.old from }
+impl Zero for f64 {
+    ghost zero = { of_bits binary64 0 };
+
+    fn zero() -> f64 {
+        0.0
+    }
+}
+
+// The list from a place on becomes 0. (A loop: `fill` would ask of `Zero` one more law, on clones.)
+pub fn blank<T: Zero>(list: &mut [T], from: usize)
+    requires { from ≤ length list.old }
+    ensures { list.new ≡ blank T.zero list.old from }
 {
-    let mut k = from;
-    while k < numbers.len() {
-        numbers[k] = 0.0;
-        k += 1;
+    for k in from..list.len() {
+        list[k] = T::zero();
     }
 }

@@ -1,18 +1,15 @@
 -- The starred cases of document 01 ("Octahedron and neighbours") in one table, their 7s as document 02's F-1 has them, and the test that a case comes out as it is due. Definitions only.
-use Rattle.std.specs.Prelude.{ℕ, Bool, true, false, ◌&&◌, List, [], ◌∷◌, map, eqb, ℤ, pos, negsuc, Float, length, replicate}
+use Rattle.std.specs.Prelude.{ℕ, Bool, true, false, ◌&&◌, List, [], ◌∷◌, map, eqb, ℤ, pos, negsuc, Float, length, replicate, Ok, Err}
 use Rattle.std.specs.Float.{binary64}
 use Rattle.std.specs.Float.Ieee.{of_int, to_bits}
 use Rattle.surface.specs.Triangle.{corners as corners_of}
 use Rattle.sheet.specs.Sheet as Sheet
 use Rattle.sheet.specs.Sheet.{Point, Triangle, Sheet, places_of, labels_of}
 use Rattle.checking.specs.Verdict as Verdict
-use Rattle.checking.specs.Verdict.{quality_of, volume_of, place_of}
-use Rattle.checking.specs.declared.Verdict.{Verdict}
+use Rattle.checking.specs.Verdict.{quality_of, volume_of, place_of, Verdict}
 use Rattle.checking.specs.Validate.{validated}
 use Rattle.questions.specs.Questions.{needed, surface_questions}
-use Rattle.questions.specs.Refusal.{refusal_number, refusal_place}
-use Rattle.questions.specs.declared.Asked.{Asked}
-use Rattle.questions.specs.declared.Asked.TheVariants as asked
+use Rattle.questions.specs.Refusal.{refusal_number, refusal_place, Asked}
 use Rattle.history.specs.History.{History, last, begun, after, verdicts}
 use Rattle.history.specs.Lists.{lent_pair, entries as entries_of}
 
@@ -49,12 +46,12 @@ same (x ∷ l) (y ∷ m) = eqb x y && same l m
 
 -- refused with this number and this place; and let in
 abbrev pub refuses : Asked → ℕ → List ℕ → Bool
-refuses asked.Passed number place = false
-refuses (asked.Refused why) number place = eqb (refusal_number why) number && same (refusal_place why) place
+refuses (Ok x) number place = false
+refuses (Err why) number place = eqb (refusal_number why) number && same (refusal_place why) place
 
 abbrev pub passes : Asked → Bool
-passes asked.Passed = true
-passes (asked.Refused why) = false
+passes (Ok x) = true
+passes (Err why) = false
 
 -- the case comes out as it is due; the journal has a place for every entry
 unfoldable pub right : Case → Bool

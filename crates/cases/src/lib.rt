@@ -1,2 +1,2 @@
-// The starred cases of document 01, one theorem over one table: `specs/Table.antt` is the table, `specs/Cases.antt` the theorem.
+// The starred cases, one theorem over one table: `specs/Table.antt` is the table, `specs/Cases.antt` the theorem.
 #![tactic(auto)]

@@ -1,14 +1,12 @@
--- A part of the words that is lent and put back: words cleared in it, and chains made in it.
+-- A part of the words that is lent and put back: chains made in it.
 use Prim.Native.Nat.{ℕ, ◌+◌, ◌-◌, ◌<◌, ◌≤◌}
 use native.Mathlib.Omega.{arith}
 use mathlib.Core.Path.{◌≡◌, sym, ap, ◌∙◌, subst}
-use mathlib.Core.List.{List, [], ◌∷◌, ◌++◌, append_assoc, append-nil}
-use lib.ListN.{length, take, drop, replicate, length-replicate, get_or-replicate, get_or-append, length-append, length-take, length-drop}
+use mathlib.Core.List.{List, [], ◌∷◌, ◌++◌, append-nil}
+use lib.ListN.{length, take, drop, get_or-append, length-append, length-take, length-drop}
 use lib.Seq.{get_or-append-add, get_or-drop, get_or-take, take_all, length-take-le}
 use Rattle.halfedges.specs.Place.{at}
 use Rattle.halfedges.specs.Free.{Free}
-use Rattle.chains.specs.Chain.{Chained}
-use Rattle.chains.specs.Marks.{Cleared}
 use Rattle.chains.proofs.Marks.{chained-part}
 use Rattle.chains.specs.Clear.{ChainedAt}
 
@@ -26,52 +24,7 @@ part-under base w v r j l m = at_front (take base w) (v ++ r) base j (length-tak
 pub part_in : (base : ℕ) (w v r : List ℕ) (j : ℕ) → base ≤ length w → j < length v → at (take base w ++ (v ++ r)) (base + j) ≡ at v j
 part_in base w v r j l m = at_back (take base w) (v ++ r) base j (length-take-le base w l) ∙ get_or-append v r 0 j m
 
-pub clear_part : (base p : ℕ) (w v w' : List ℕ) → base + p ≤ length w → v ≡ replicate p 0 ++ drop p (take (length w - base) (drop base w)) → w' ≡ take base w ++ (v ++ drop (length w - base) (drop base w)) → Cleared base p w w'
-clear_part base p w v w' room e f = record {
-  len = ap length f ∙ length-append (take base w) (v ++ r) ∙ omega (arith, length-append v r, length-take base w, size, length-drop (length w - base) (drop base w), length-drop base w);
-  under = λ j l. ap (λ (x : List ℕ). at x j) f ∙ part-under base w v r j (omega arith) l;
-  zeros = λ x l. ap (λ (y : List ℕ). at y (base + x)) f ∙ part_in base w v r x (omega arith) (omega (arith, size)) ∙ ap (λ (y : List ℕ). at y x) e ∙ at_front (replicate p 0) s p x (length-replicate p 0) l ∙ get_or-replicate p x 0 0 l;
-  over = λ j l. over j l;
-}
-  where
-    r : List ℕ
-    r = drop (length w - base) (drop base w)
-
-    s : List ℕ
-    s = drop p (take (length w - base) (drop base w))
-
-    whole : take (length w - base) (drop base w) ≡ drop base w
-    whole = take_all (length w - base) (drop base w) (omega (arith, length-drop base w))
-
-    size : length v ≡ length w - base
-    size = ap length e ∙ length-append (replicate p 0) s ∙ omega (arith, length-replicate {A = ℕ} p 0, length-drop p (take (length w - base) (drop base w)), ap length whole, length-drop base w)
-
-    over : (j : ℕ) → base + p ≤ j → at w' j ≡ at w j
-    over j l =
-        let z : base + (p + (j - (base + p))) ≡ j = omega arith in
-        let i = j - (base + p) in
-        subst (λ (n : ℕ). at w' n ≡ at w n) z (ap (λ (x : List ℕ). at x (base + (p + i))) f ∙ at_back (take base w) (v ++ r) base (p + i) (length-take-le base w (omega arith)) ∙ tail i)
-      where
-        empty : length r ≡ 0
-        empty = omega (arith, length-drop (length w - base) (drop base w), length-drop base w)
-
-        tail : (i : ℕ) → at (v ++ r) (p + i) ≡ at w (base + (p + i))
-        tail i =
-            ap (λ (x : List ℕ). at (x ++ r) (p + i)) e
-            ∙ ap (λ (x : List ℕ). at x (p + i)) (append_assoc (replicate p 0) s r)
-            ∙ at_back (replicate p 0) (s ++ r) p i (length-replicate p 0)
-            ∙ ap (λ (x : List ℕ). at (drop p x ++ r) i) whole
-            ∙ last
-            ∙ get_or-drop p (drop base w) i 0 ∙ get_or-drop base w (p + i) 0
-          where
-            nil_tail : (a b : List ℕ) → length b ≡ 0 → a ++ b ≡ a
-            nil_tail a [] q = append-nil a
-            nil_tail a (x ∷ b) q = absurd (omega arith)
-
-            last : at (drop p (drop base w) ++ r) i ≡ at (drop p (drop base w)) i
-            last = ap (λ (x : List ℕ). at x i) (nil_tail (drop p (drop base w)) r empty)
-
--- and where words of the part are free, those words of the whole are
+-- where words of the part are free, those words of the whole are
 pub free_part : (base hi : ℕ) (w v w' : List ℕ) → base ≤ length w → Free 0 hi (take (length w - base) (drop base w)) v → w' ≡ take base w ++ (v ++ drop (length w - base) (drop base w)) → Free base (base + hi) w w'
 free_part base hi w v w' room f e = record {
   len = ap length e ∙ length-append (take base w) (v ++ r) ∙ omega (arith, length-append v r, length-take base w, size, length-drop (length w - base) (drop base w), length-drop base w);

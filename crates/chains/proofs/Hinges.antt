@@ -5,9 +5,9 @@ use mathlib.Core.Path.{◌≡◌, refl, sym, ap, ◌∙◌}
 use mathlib.Core.Logic.{◌⊎◌, inl, inr}
 use mathlib.Core.List.{List}
 use lib.ListN.{length}
-use Rattle.surface.specs.Triangle.{tri, triangles}
+use Rattle.surface.specs.Triangle.{triangles}
 use Rattle.surface.specs.Closed.{sides, Closed}
-use Rattle.surface.specs.Edit.{Hinge, hinge, place}
+use Rattle.surface.specs.Edit.{Hinge, hinge}
 use Rattle.surface.proofs.Bridge.{closed_surface_lem}
 use Rattle.surface.proofs.Hinged.{Hinged, hinged}
 use Rattle.halfedges.specs.Place.{nx, pv, at}

@@ -173,7 +173,3 @@ stamping c p stamps v (suc i) w h l room = go (same_or (at c i) v) (stamping c p
 
 pub walking_of : {c : List ℕ} {p : ℕ} {w : List ℕ} {chains stamps marks : ℕ} → Marking c p w chains stamps marks → Walking c p w chains stamps
 walking_of {c} {p} {w} {chains} {stamps} {marks} m = record { lists = m.lists; chained = m.chained; order = m.second; room = omega (arith, m.third, m.room) }
-
--- a stamp put at a place of v
-pub stamp-next : (c : List ℕ) (p stamps v i j : ℕ) (w : List ℕ) → Lists c p → i ≤ length c → stamps + p ≤ length w → j < stamps → at (walk (stamp_at c stamps v) c v i w) j ≡ at w j
-stamp-next c p stamps v i j w h l room m = (stamping c p stamps v i w h l room).under j m

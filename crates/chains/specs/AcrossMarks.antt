@@ -1,5 +1,5 @@
 -- The marks of the places: whether a corner is joined to the one across the side opposite to it. Definitions only.
-use Rattle.std.specs.Prelude.{ℕ, ◌+◌, ◌*◌, ◌-◌, ◌<◌, ◌≤◌, ◌≡◌, List, length}
+use Rattle.std.specs.Prelude.{ℕ, ◌+◌, ◌*◌, ◌<◌, ◌≤◌, ◌≡◌, List, length}
 use Rattle.surface.specs.Triangle.{triangles}
 use Rattle.surface.specs.Closed.{sides}
 use Rattle.halfedges.specs.Place.{nx, pv, at}

@@ -1,5 +1,5 @@
 -- The marks of the sides whose ends have only the opposite corners for common neighbours. Definitions only.
-use Rattle.std.specs.Prelude.{ℕ, ◌+◌, ◌*◌, ◌-◌, ◌<◌, ◌≤◌, ◌≡◌, ◌⊎◌, Bool, true, false, List, length}
+use Rattle.std.specs.Prelude.{ℕ, ◌+◌, ◌*◌, ◌<◌, ◌≤◌, ◌≡◌, ◌⊎◌, Bool, true, false, List, length}
 use Rattle.surface.specs.Closed.{one}
 use Rattle.halfedges.specs.Place.{nx, at, uses}
 use Rattle.halfedges.specs.Free.{Free}

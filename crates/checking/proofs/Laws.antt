@@ -12,21 +12,18 @@ use Rattle.surface.specs.Closed.{around, Ring, InUse, Differ, Paired}
 use Rattle.surface.specs.Finding.{finding}
 use Rattle.surface.proofs.Findings.{finding-closed}
 use Rattle.questions.specs.Questions.{lent_questions}
-use Rattle.questions.specs.Refusal.{refusal_number, asked_number, on_finding}
+use Rattle.questions.specs.Refusal.{refusal_number, on_finding, Asked}
 use Rattle.questions.specs.declared.Refusal.{Refusal}
-use Rattle.questions.specs.declared.Asked.{Asked}
-use Rattle.questions.specs.declared.Asked.TheVariants as asked
 use Rattle.questions.proofs.Counted.{not_both, lent-passed}
 use Rattle.questions.proofs.Chain.{found_passed}
-use Rattle.questions.proofs.Telling.{lent_telling}
+use Rattle.questions.proofs.Telling.{telling}
 use Rattle.quality.specs.Quality.{number, degenerate}
 use Rattle.quality.proofs.Lesser.{above_zero, kept_positive}
-use Rattle.checking.specs.Verdict.{number_of}
+use Rattle.checking.specs.Verdict.{Verdict, accepted, volume_of}
 use Rattle.checking.specs.Validate.{quality_at, measured, as_whole, validated}
-use Rattle.checking.specs.declared.Verdict.{Verdict}
-use Rattle.checking.specs.declared.Verdict.TheVariants.{Accepted, Refused}
 use Rattle.checking.proofs.Sound.{never, measures, corners-below}
-use Rattle.checking.proofs.Cases.{by_whole, some-triangles, examined-some, by_first}
+use Rattle.checking.proofs.Cases.{by_whole, some-triangles, by_first}
+use Rattle.std.specs.Prelude.{Ok, Err}
 
 abbrev at : List Tri → ℕ → Tri
 at ts i = get_or ts i (tri 0 0 0)
@@ -48,36 +45,36 @@ pub record Sound (points : List Float) (corners : List ℕ) (quality volume : Fl
 
 -- the last two questions are answered by "yes"
 record Yes (ts : List Tri) (x : Verdict) (q v : Float) : Type 0 where
-  same : x ≡ Accepted q v
-  closed : on_finding (finding ts) ≡ asked.Passed
+  same : x ≡ accepted q v
+  closed : on_finding (finding ts) ≡ Ok tt
   kept : degenerate v ≡ false
 
-whole_yes : (ts : List Tri) (x : Verdict) (q v : Float) → as_whole ts x ≡ Accepted q v → Yes ts x q v
-whole_yes ts (Refused why) q v e = absurd (never e)
-whole_yes ts (Accepted q' v') q v e = go (on_finding (finding ts)) refl (degenerate v') refl
+whole_yes : (ts : List Tri) (x : Verdict) (q v : Float) → as_whole ts x ≡ accepted q v → Yes ts x q v
+whole_yes ts (Err why) q v e = absurd (never e)
+whole_yes ts (Ok m) q v e = go (on_finding (finding ts)) refl (degenerate m.volume) refl
   where
-    go : (a : Asked) → on_finding (finding ts) ≡ a → (d : Bool) → degenerate v' ≡ d → Yes ts (Accepted q' v') q v
-    go (asked.Refused why) p d g = absurd (never (sym (by_whole ts q' v' p g) ∙ e))
-    go asked.Passed p true g = absurd (never (sym (by_whole ts q' v' p g) ∙ e))
-    go asked.Passed p false g =
-        let u : Accepted q' v' ≡ Accepted q v = sym (by_whole ts q' v' p g) ∙ e in
-        let same : v' ≡ v = cc in
+    go : (a : Asked) → on_finding (finding ts) ≡ a → (d : Bool) → degenerate m.volume ≡ d → Yes ts (Ok m) q v
+    go (Err why) p d g = absurd (never (sym (by_whole ts m.quality m.volume p g) ∙ e))
+    go (Ok tt) p true g = absurd (never (sym (by_whole ts m.quality m.volume p g) ∙ e))
+    go (Ok tt) p false g =
+        let u : Ok m ≡ accepted q v = sym (by_whole ts m.quality m.volume p g) ∙ e in
+        let same : m.volume ≡ v = ap volume_of u in
         record { same = u; closed = p; kept = ap degenerate (sym same) ∙ g }
 
-module _ (ps : List Float) (cs ls work : List ℕ) (q v : Float) (e : validated ps cs ls work ≡ Accepted q v) where
+module _ (ps : List Float) (cs ls work : List ℕ) (q v : Float) (e : validated ps cs ls work ≡ accepted q v) where
   -- questions 1 to 4
-  pub accepted-lent : lent_questions ps cs ls work ≡ asked.Passed
+  pub accepted-lent : lent_questions ps cs ls work ≡ Ok tt
   accepted-lent = go (lent_questions ps cs ls work) refl
     where
-      go : (a : Asked) → lent_questions ps cs ls work ≡ a → lent_questions ps cs ls work ≡ asked.Passed
-      go asked.Passed p = p
-      go (asked.Refused why) p = absurd (never (sym (by_first ps cs ls work p) ∙ e))
+      go : (a : Asked) → lent_questions ps cs ls work ≡ a → lent_questions ps cs ls work ≡ Ok tt
+      go (Ok tt) p = p
+      go (Err why) p = absurd (never (sym (by_first ps cs ls work p) ∙ e))
 
   -- and with at least one triangle the others
   accepted-whole : 0 < length cs → Yes (triangles cs) (measured ps cs) q v
   accepted-whole some = whole_yes (triangles cs) (measured ps cs) q v (some-triangles ps cs (λ z. omega arith) ∙ sym (by_first ps cs ls work accepted-lent) ∙ e)
 
-  pub accepted-measured : 0 < length cs → measured ps cs ≡ Accepted q v
+  pub accepted-measured : 0 < length cs → measured ps cs ≡ accepted q v
   accepted-measured some = (accepted-whole some).same
 
   pub sound : 0 < length cs → Sound ps cs q v
@@ -98,9 +95,5 @@ module _ (ps : List Float) (cs ls work : List ℕ) (q v : Float) (e : validated 
       }
 
 -- the number is 0 only where the surface is accepted
-pub refused-some : (ps : List Float) (cs ls work : List ℕ) (why : Refusal) → validated ps cs ls work ≡ Refused why → refusal_number why ≡ 0 → ⊥
-refused-some ps cs ls work why e z = go (lent_questions ps cs ls work) refl
-  where
-    go : (a : Asked) → lent_questions ps cs ls work ≡ a → ⊥
-    go asked.Passed p = omega (arith, z, examined-some ps cs why (sym (by_first ps cs ls work p) ∙ e))
-    go (asked.Refused w) p = not_both (lent_telling ps cs ls work (ap asked_number p ∙ ap number_of (sym (by_first ps cs ls work p) ∙ e) ∙ z)) p
+pub refused-some : (ps : List Float) (cs ls work : List ℕ) (why : Refusal) → validated ps cs ls work ≡ Err why → refusal_number why ≡ 0 → ⊥
+refused-some ps cs ls work why e z = not_both (telling (Err why) z) refl

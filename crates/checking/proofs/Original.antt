@@ -28,16 +28,14 @@ use Rattle.surface.proofs.Original.{original_iff}
 use Rattle.questions.specs.Questions.{ask, lent_questions}
 use Rattle.questions.specs.Refusal.{refusal_number, on_finding}
 use Rattle.questions.specs.declared.Refusal.{Refusal}
-use Rattle.questions.specs.declared.Refusal.TheVariants.{Question, Repeated, Lone, Split}
-use Rattle.questions.specs.declared.Asked.TheVariants as asked
+use Rattle.questions.specs.declared.Refusal.TheVariants.{Lengths, NotFinite, CornerMissing, Degenerate, Repeated, Lone, Split, Volume}
+use Rattle.std.specs.declared.result.Result.TheVariants as ours
 use Rattle.questions.proofs.Counted.{no_labels, asked_finite}
 use Rattle.questions.proofs.Chain.{not_so}
 use Rattle.quality.specs.Quality.{number, rated, quality, wedge, degenerate}
-use Rattle.checking.specs.Verdict.{number_of}
+use Rattle.checking.specs.Verdict.{Verdict, accepted, number_of, quality_of, volume_of}
 use Rattle.checking.specs.Validate.{point_at, placed, quality_at, wedge_at, outside, next, measured, as_whole, examined, validated}
 use Rattle.checking.specs.Original.{InvalidArrays, InvalidIndex, DegenerateTriangle, NotClosed, NonpositiveVolume, Result, Panics, Err, Ok, finite?, point_of, behind, from_face, from_origin, original, points_of, original_of, Lendable, EqualsOriginal}
-use Rattle.checking.specs.declared.Verdict.{Verdict}
-use Rattle.checking.specs.declared.Verdict.TheVariants.{Accepted, Refused}
 use Rattle.checking.proofs.Turns.{taken, by_tests, refused}
 use Rattle.checking.proofs.Sound.{never, measures, corners-below}
 use Rattle.checking.proofs.Cases.{by_whole, some-triangles, by_first}
@@ -95,70 +93,70 @@ module _ (points : List Point) (faces : List Tri) (origin : Point) where
 
   -- the lines behind the loop, or the message for a triangle that is refused
   onwards : Verdict → List Step → Result
-  onwards (Accepted q v) sides = behind points faces origin q v sides
-  onwards (Refused why) sides = Err (cond (eqb (refusal_number why) 5) InvalidIndex DegenerateTriangle)
+  onwards (ours.Ok m) sides = behind points faces origin m.quality m.volume sides
+  onwards (ours.Err why) sides = Err (cond (eqb (refusal_number why) 5) InvalidIndex DegenerateTriangle)
 
   -- the loop makes what `measured` makes
   module _ (ps : List Float) (many : length points ≡ length ps / 3) (at : (i : ℕ) → difference (point_of points i) origin ≡ placed ps i) where
-    whole-loop : (m v : Float) (sides : List Step) (ts : List Tri) → from_face points faces origin m v sides ts ≡ onwards (foldl (next ps) (Accepted m v) ts) (sides ++ directed ts)
+    whole-loop : (m v : Float) (sides : List Step) (ts : List Tri) → from_face points faces origin m v sides ts ≡ onwards (foldl (next ps) (accepted m v) ts) (sides ++ directed ts)
     unfolding from_face onwards directed
     whole-loop m v sides [] = ap (behind points faces origin m v) (sym (append-nil sides))
     whole-loop m v sides (t ∷ ts) =
         one-face m v sides t ts many (at t.a) (at t.b) (at t.c)
         ∙ go (outside (length ps / 3) t) refl (degenerate (quality_at ps t)) refl (whole-loop (lesser m (quality_at ps t)) (plus v (wedge_at ps t)) (sides ++ sides_of t) ts)
       where
-        onto : {x : Verdict} → next ps (Accepted m v) t ≡ x → foldl (next ps) (Accepted m v) (t ∷ ts) ≡ foldl (next ps) x ts
+        onto : {x : Verdict} → next ps (accepted m v) t ≡ x → foldl (next ps) (accepted m v) (t ∷ ts) ≡ foldl (next ps) x ts
         onto e = ap (λ (x : Verdict). foldl (next ps) x ts) e
 
         go : (o : Bool) → outside (length ps / 3) t ≡ o → (d : Bool) → degenerate (quality_at ps t) ≡ d
             → from_face points faces origin (lesser m (quality_at ps t)) (plus v (wedge_at ps t)) (sides ++ sides_of t) ts ≡ onwards (foldl (next ps) (taken ps m v t) ts) ((sides ++ sides_of t) ++ directed ts)
-            → cond o (Err InvalidIndex) (cond d (Err DegenerateTriangle) (from_face points faces origin (lesser m (quality_at ps t)) (plus v (wedge_at ps t)) (sides ++ sides_of t) ts)) ≡ onwards (foldl (next ps) (Accepted m v) (t ∷ ts)) (sides ++ (sides_of t ++ directed ts))
-        go true p d q h = sym (ap (λ (x : Verdict). onwards x (sides ++ (sides_of t ++ directed ts))) (onto (by_tests ps m v t p q) ∙ refused ps (Question 5) ts))
-        go false p true q h = sym (ap (λ (x : Verdict). onwards x (sides ++ (sides_of t ++ directed ts))) (onto (by_tests ps m v t p q) ∙ refused ps (Question 6) ts))
+            → cond o (Err InvalidIndex) (cond d (Err DegenerateTriangle) (from_face points faces origin (lesser m (quality_at ps t)) (plus v (wedge_at ps t)) (sides ++ sides_of t) ts)) ≡ onwards (foldl (next ps) (accepted m v) (t ∷ ts)) (sides ++ (sides_of t ++ directed ts))
+        go true p d q h = sym (ap (λ (x : Verdict). onwards x (sides ++ (sides_of t ++ directed ts))) (onto (by_tests ps m v t p q) ∙ refused ps CornerMissing ts))
+        go false p true q h = sym (ap (λ (x : Verdict). onwards x (sides ++ (sides_of t ++ directed ts))) (onto (by_tests ps m v t p q) ∙ refused ps Degenerate ts))
         go false p false q h = h ∙ ap₂ onwards (sym (onto (by_tests ps m v t p q))) (append_assoc sides (sides_of t) (directed ts))
 
 -- ---- what is said by both
 
 data Pairs : Result → Verdict → Type 0 where
-  accepts : {q v : Float} → Pairs (Ok q v) (Accepted q v)
-  unlabelled : Pairs (Err InvalidArrays) (Refused (Question 1))
-  infinite : Pairs (Err InvalidArrays) (Refused (Question 4))
-  beyond : Pairs (Err InvalidIndex) (Refused (Question 5))
-  flat : Pairs (Err DegenerateTriangle) (Refused (Question 6))
-  repeated : {u v : ℕ} → Pairs (Err NotClosed) (Refused (Repeated u v))
-  lone : {u v : ℕ} → Pairs (Err NotClosed) (Refused (Lone u v))
-  split : {v : ℕ} → Pairs (Err NotClosed) (Refused (Split v))
-  hollow : Pairs (Err NonpositiveVolume) (Refused (Question 8))
+  accepts : {q v : Float} → Pairs (Ok q v) (accepted q v)
+  unlabelled : Pairs (Err InvalidArrays) (ours.Err Lengths)
+  infinite : Pairs (Err InvalidArrays) (ours.Err NotFinite)
+  beyond : Pairs (Err InvalidIndex) (ours.Err CornerMissing)
+  flat : Pairs (Err DegenerateTriangle) (ours.Err Degenerate)
+  repeated : {u v : ℕ} → Pairs (Err NotClosed) (ours.Err (Repeated u v))
+  lone : {u v : ℕ} → Pairs (Err NotClosed) (ours.Err (Lone u v))
+  split : {v : ℕ} → Pairs (Err NotClosed) (ours.Err (Split v))
+  hollow : Pairs (Err NonpositiveVolume) (ours.Err Volume)
 
 along : {r s : Result} {x y : Verdict} → r ≡ s → x ≡ y → Pairs s y → Pairs r x
 along {r} {s} {x} {y} e f p = subst (λ (z : Result). Pairs z x) (sym e) (subst (λ (z : Verdict). Pairs s z) (sym f) p)
 
 -- a triangle is refused with 5 or 6
 module _ (ps : List Float) where
-  five_six : (m v : Float) (ts : List Tri) (why : Refusal) → foldl (next ps) (Accepted m v) ts ≡ Refused why → (why ≡ Question 5) ⊎ (why ≡ Question 6)
+  five_six : (m v : Float) (ts : List Tri) (why : Refusal) → foldl (next ps) (accepted m v) ts ≡ ours.Err why → (why ≡ CornerMissing) ⊎ (why ≡ Degenerate)
   five_six m v [] why e = absurd (never (sym e))
   five_six m v (t ∷ ts) why e = go (outside (length ps / 3) t) refl (degenerate (quality_at ps t)) refl (five_six (lesser m (quality_at ps t)) (plus v (wedge_at ps t)) ts why)
     where
-      onto : {x : Verdict} → next ps (Accepted m v) t ≡ x → foldl (next ps) x ts ≡ Refused why
+      onto : {x : Verdict} → next ps (accepted m v) t ≡ x → foldl (next ps) x ts ≡ ours.Err why
       onto q = sym (ap (λ (x : Verdict). foldl (next ps) x ts) q) ∙ e
 
-      same : (k : Refusal) → Refused k ≡ Refused why → why ≡ k
+      same : (k : Refusal) → ◌≡◌ {A = Verdict} (ours.Err k) (ours.Err why) → why ≡ k
       same k q = cc
 
-      go : (o : Bool) → outside (length ps / 3) t ≡ o → (d : Bool) → degenerate (quality_at ps t) ≡ d → (foldl (next ps) (taken ps m v t) ts ≡ Refused why → (why ≡ Question 5) ⊎ (why ≡ Question 6)) → (why ≡ Question 5) ⊎ (why ≡ Question 6)
-      go true p d q ih = inl (same (Question 5) (sym (refused ps (Question 5) ts) ∙ onto (by_tests ps m v t p q)))
-      go false p true q ih = inr (same (Question 6) (sym (refused ps (Question 6) ts) ∙ onto (by_tests ps m v t p q)))
+      go : (o : Bool) → outside (length ps / 3) t ≡ o → (d : Bool) → degenerate (quality_at ps t) ≡ d → (foldl (next ps) (taken ps m v t) ts ≡ ours.Err why → (why ≡ CornerMissing) ⊎ (why ≡ Degenerate)) → (why ≡ CornerMissing) ⊎ (why ≡ Degenerate)
+      go true p d q ih = inl (same CornerMissing (sym (refused ps CornerMissing ts) ∙ onto (by_tests ps m v t p q)))
+      go false p true q ih = inr (same Degenerate (sym (refused ps Degenerate ts) ∙ onto (by_tests ps m v t p q)))
       go false p false q ih = ih (onto (by_tests ps m v t p q))
 
 -- without points the first triangle is refused with 5
-no_point : (m v : Float) (ts : List Tri) → 0 < length ts → foldl (next []) (Accepted m v) ts ≡ Refused (Question 5)
+no_point : (m v : Float) (ts : List Tri) → 0 < length ts → foldl (next []) (accepted m v) ts ≡ ours.Err CornerMissing
 no_point m v [] l = absurd (omega arith)
-no_point m v (t ∷ ts) l = ap (λ (x : Verdict). foldl (next []) x ts) (by_tests [] m v t out refl) ∙ refused [] (Question 5) ts
+no_point m v (t ∷ ts) l = ap (λ (x : Verdict). foldl (next []) x ts) (by_tests [] m v t out refl) ∙ refused [] CornerMissing ts
   where
     out : outside 0 t ≡ true
     out = rw (le-leb 0 t.a (omega arith))
 
-unmeasured : (cs : List ℕ) → 0 < length (triangles cs) → measured [] cs ≡ Refused (Question 5)
+unmeasured : (cs : List ℕ) → 0 < length (triangles cs) → measured [] cs ≡ ours.Err CornerMissing
 unfolding measured
 unmeasured cs l = no_point (number 1) (number 0) (triangles cs) l
 
@@ -179,10 +177,10 @@ module _ (points : List Point) (ts : List Tri) (origin : Point) (q v : Float) wh
     open_both : {f : Finding} → finding ts ≡ f → (f ≡ finds.Closed → ⊥) → closed_oriented ts (directed ts) (length points) ≡ false
     open_both e n = not_so _ (λ c. n (sym e ∙ closed-both.1 c))
 
-    whole_pairs : Pairs (behind points ts origin q v (directed ts)) (as_whole ts (Accepted q v))
+    whole_pairs : Pairs (behind points ts origin q v (directed ts)) (as_whole ts (accepted q v))
     whole_pairs = go (finding ts) refl (degenerate v) refl
       where
-        go : (f : Finding) → finding ts ≡ f → (d : Bool) → degenerate v ≡ d → Pairs (behind points ts origin q v (directed ts)) (as_whole ts (Accepted q v))
+        go : (f : Finding) → finding ts ≡ f → (d : Bool) → degenerate v ≡ d → Pairs (behind points ts origin q v (directed ts)) (as_whole ts (accepted q v))
         go finds.Closed e true g = along (by-behind (closed-both.0 e) g) (by_whole ts q v (ap on_finding e) g) hollow
         go finds.Closed e false g = along (by-behind (closed-both.0 e) g) (by_whole ts q v (ap on_finding e) g) accepts
         go (finds.Repeated x y) e d g = along (by-behind (open_both e (λ p. let z : ◌≡◌ {A = ℕ} 0 1 = cc in omega arith)) g) (by_whole ts q v (ap on_finding e) g) repeated
@@ -217,15 +215,15 @@ module _ (x y z : Float) (l : List Float) (cs : List ℕ) (threes : length (x �
       loop = whole-loop points (triangles cs) origin ps count (λ i. ap (λ (p : Point). difference p origin) (point_at_lem (length ps / 3) ps many i)) (number 1) (number 0) [] (triangles cs)
 
       go : (v : Verdict) → measured ps cs ≡ v → Pairs (from_origin points (triangles cs)) (as_whole (triangles cs) (measured ps cs))
-      go (Accepted q v) e =
+      go (ours.Ok m) e =
           along (loop ∙ ap (λ (w : Verdict). onwards points (triangles cs) origin w (directed (triangles cs))) e) (ap (as_whole (triangles cs)) e)
-          (whole_pairs points (triangles cs) origin q v (λ u i. subst (λ (n : ℕ). u < n) (sym count) (used-below (length ps / 3) cs (corners-below ps cs q corners (measures ps cs q v e)) u i)))
-      go (Refused why) e = two (five_six ps (number 1) (number 0) (triangles cs) why e)
+          (whole_pairs points (triangles cs) origin m.quality m.volume (λ u i. subst (λ (n : ℕ). u < n) (sym count) (used-below (length ps / 3) cs (corners-below ps cs m.quality corners (measures ps cs m.quality m.volume e)) u i)))
+      go (ours.Err why) e = two (five_six ps (number 1) (number 0) (triangles cs) why e)
         where
-          onto : {r : Result} {w : Refusal} → why ≡ w → onwards points (triangles cs) origin (Refused w) (directed (triangles cs)) ≡ r → Pairs r (Refused w) → Pairs (from_origin points (triangles cs)) (as_whole (triangles cs) (measured ps cs))
-          onto f g p = along (loop ∙ ap (λ (w : Verdict). onwards points (triangles cs) origin w (directed (triangles cs))) (e ∙ ap Refused f) ∙ g) (ap (as_whole (triangles cs)) (e ∙ ap Refused f)) p
+          onto : {r : Result} {w : Refusal} → why ≡ w → onwards points (triangles cs) origin (ours.Err w) (directed (triangles cs)) ≡ r → Pairs r (ours.Err w) → Pairs (from_origin points (triangles cs)) (as_whole (triangles cs) (measured ps cs))
+          onto f g p = along (loop ∙ ap (λ (w : Verdict). onwards points (triangles cs) origin w (directed (triangles cs))) (e ∙ ap ours.Err f) ∙ g) (ap (as_whole (triangles cs)) (e ∙ ap ours.Err f)) p
 
-          two : (why ≡ Question 5) ⊎ (why ≡ Question 6) → Pairs (from_origin points (triangles cs)) (as_whole (triangles cs) (measured ps cs))
+          two : (why ≡ CornerMissing) ⊎ (why ≡ Degenerate) → Pairs (from_origin points (triangles cs)) (as_whole (triangles cs) (measured ps cs))
           two (inl f) = onto f refl beyond
           two (inr f) = onto f refl flat
 
@@ -243,7 +241,7 @@ module _ (ps : List Float) (cs ls : List ℕ) where
 
   data Both (w : List ℕ) : Type 0 where
     says : Pairs (original_of ps cs ls) (validated ps cs ls w) → Both w
-    stops : Pointless → original_of ps cs ls ≡ Panics → validated ps cs ls w ≡ Refused (Question 5) → Both w
+    stops : Pointless → original_of ps cs ls ≡ Panics → validated ps cs ls w ≡ ours.Err CornerMissing → Both w
 
 module _ (cs ls : List ℕ) (thirds : length cs % 3 ≡ 0) where
   counted : length (triangles cs) ≡ length cs / 3
@@ -267,7 +265,7 @@ module _ (cs ls : List ℕ) (thirds : length cs % 3 ≡ 0) where
       labelled : eqb (length (triangles cs)) (length ls) ≡ true
       labelled = eq-eqb _ _ (counted ∙ sym each)
 
-      asked_four : {d : Bool} → every is_finite ps ≡ d → ask d 4 asked.Passed ≡ lent_questions ps cs ls w
+      asked_four : {d : Bool} → every is_finite ps ≡ d → ask d NotFinite (ours.Ok tt) ≡ lent_questions ps cs ls w
       asked_four e = asked_finite ps cs ls w lends.points_in_threes thirds each lends.few-points lends.few-triangles lends.enough-words e
 
       finite-same : {d : Bool} → every is_finite ps ≡ d → every finite? (points_of ps) ≡ d
@@ -279,7 +277,7 @@ module _ (cs ls : List ℕ) (thirds : length cs % 3 ≡ 0) where
       no_triangle : every is_finite ps ≡ true → length cs ≡ 0 → Both ps cs ls w
       unfolding examined
       no_triangle e z =
-          says (along (by-original ps cs ls labelled (finite-same e) (none z)) (by_first ps cs ls w (sym (asked_four e)) ∙ ap (λ (b : Bool). cond b (Accepted (number 0) (number 0)) (as_whole (triangles cs) (measured ps cs))) (eq-eqb (length cs) 0 z)) accepts)
+          says (along (by-original ps cs ls labelled (finite-same e) (none z)) (by_first ps cs ls w (sym (asked_four e)) ∙ ap (λ (b : Bool). cond b (accepted (number 0) (number 0)) (as_whole (triangles cs) (measured ps cs))) (eq-eqb (length cs) 0 z)) accepts)
 
       some_triangle : every is_finite ps ≡ true → 0 < length cs → Both ps cs ls w
       some_triangle e l = go ps refl
@@ -397,15 +395,15 @@ row : {p q : Bool} {A B : Type 0} → p ≡ q → ((p ≡ true) ↔ A) → ((q �
 row e f g = ((λ a. g.0 (sym e ∙ f.1 a)), λ b. f.0 (e ∙ g.1 b))
 
 -- accepted alike
-not_ok : (r : Result) (why : Refusal) (q v : Float) → (tag r ≡ 1 → ⊥) → (r ≡ Ok q v) ↔ (Refused why ≡ Accepted q v)
+not_ok : (r : Result) (why : Refusal) (q v : Float) → (tag r ≡ 1 → ⊥) → (r ≡ Ok q v) ↔ (ours.Err why ≡ accepted q v)
 unfolding tag
 not_ok r why q v n = ((λ e. absurd (n (ap tag e))), λ e. absurd (never e))
 
-ok-both : {r : Result} {x : Verdict} → Pairs r x → (q v : Float) → (r ≡ Ok q v) ↔ (x ≡ Accepted q v)
+ok-both : {r : Result} {x : Verdict} → Pairs r x → (q v : Float) → (r ≡ Ok q v) ↔ (x ≡ accepted q v)
 unfolding tag
 ok-both (accepts {q = q'} {v = v'}) q v = (
-  (λ e. let a : q' ≡ q = cc in let b : v' ≡ v = cc in ap₂ Accepted a b),
-  λ e. let a : q' ≡ q = cc in let b : v' ≡ v = cc in ap₂ Ok a b,
+  (λ e. let a : q' ≡ q = cc in let b : v' ≡ v = cc in ap₂ accepted a b),
+  λ e. let a : q' ≡ q = ap quality_of e in let b : v' ≡ v = ap volume_of e in ap₂ Ok a b,
 )
 ok-both unlabelled q v = not_ok _ _ q v (λ e. omega arith)
 ok-both infinite q v = not_ok _ _ q v (λ e. omega arith)
@@ -437,10 +435,10 @@ module _ (ps : List Float) (cs ls w : List ℕ) (lends : Lendable ps cs w) where
   lines (says p) = rows p
   lines (stops n e f) = subst (λ (t : ℕ). Rows t (number_of (validated ps cs ls w))) (sym (ap tag e)) (subst (Rows 0) (sym (ap number_of f)) panic_rows)
 
-  accepted : Both ps cs ls w → (q v : Float) → (original_of ps cs ls ≡ Ok q v) ↔ (validated ps cs ls w ≡ Accepted q v)
+  as_accepted : Both ps cs ls w → (q v : Float) → (original_of ps cs ls ≡ Ok q v) ↔ (validated ps cs ls w ≡ accepted q v)
   unfolding tag
-  accepted (says p) q v = ok-both p q v
-  accepted (stops n e f) q v = ((λ g. let z = ap tag (sym e ∙ g) in absurd (omega arith)), λ g. absurd (never (sym f ∙ g)))
+  as_accepted (says p) q v = ok-both p q v
+  as_accepted (stops n e f) q v = ((λ g. let z = ap tag (sym e ∙ g) in absurd (omega arith)), λ g. absurd (never (sym f ∙ g)))
 
   panicking : Both ps cs ls w → (original_of ps cs ls ≡ Panics) ↔ Pointless ps cs ls
   panicking (says p) = ((λ e. absurd (no_panic p e)), λ k. there ps refl k)
@@ -450,7 +448,7 @@ module _ (ps : List Float) (cs ls w : List ℕ) (lends : Lendable ps cs w) where
       there (x ∷ l) e k = absurd (omega (arith, ap length e, k.0))
   panicking (stops n e f) = ((λ g. n), λ k. e)
 
-  pub validate_original : EqualsOriginal ps cs ls (λ q v. validated ps cs ls w ≡ Accepted q v) (number_of (validated ps cs ls w))
+  pub validate_original : EqualsOriginal ps cs ls (λ q v. validated ps cs ls w ≡ accepted q v) (number_of (validated ps cs ls w))
   unfolding tag untag
   validate_original =
       let both = said cs ls lends.corners_in_threes ps w lends in
@@ -458,7 +456,7 @@ module _ (ps : List Float) (cs ls w : List ℕ) (lends : Lendable ps cs w) where
       let n = number_of (validated ps cs ls w) in
       let l = lines both in
       record {
-        ok = accepted both;
+        ok = as_accepted both;
         arrays = row l.arrays (is r 2 refl) (either (equals n 1) (equals n 4));
         index = row l.index (either (is r 3 refl) (is r 0 refl)) (equals n 5);
         degenerate = row l.degenerate (is r 4 refl) (equals n 6);

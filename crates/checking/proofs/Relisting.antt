@@ -17,19 +17,16 @@ use Rattle.surface.specs.PageTwelve.{Reordered, RelistedLists}
 use Rattle.surface.proofs.Bools.{or_turn, true_false}
 use Rattle.surface.proofs.Relisting.{every_perm, triangles-reordered, reordered-relisted, corners-relisted, every_triangle}
 use Rattle.questions.specs.Questions.{lent_questions}
-use Rattle.questions.specs.Refusal.{on_finding}
-use Rattle.questions.specs.declared.Refusal.TheVariants.{Question}
-use Rattle.questions.specs.declared.Asked.{Asked}
-use Rattle.questions.specs.declared.Asked.TheVariants as asked
+use Rattle.questions.specs.Refusal.{on_finding, Asked}
 use Rattle.questions.proofs.Counted.{lent-passed}
 use Rattle.questions.proofs.Relisting.{found-same, lent-relisted}
 use Rattle.quality.specs.Quality.{number, degenerate}
-use Rattle.checking.specs.Verdict.{number_of}
+use Rattle.checking.specs.Verdict.{Verdict, accepted, number_of}
 use Rattle.checking.specs.Validate.{outside, quality_at, wedge_at, next, measured, as_whole, validated}
-use Rattle.checking.specs.declared.Verdict.{Verdict}
-use Rattle.checking.specs.declared.Verdict.TheVariants.{Accepted, Refused}
 use Rattle.checking.proofs.Turns.{by_tests, refused}
 use Rattle.checking.proofs.Cases.{by_whole, no_triangles, some-triangles, by_first}
+use Rattle.questions.specs.declared.Refusal.TheVariants.{CornerMissing, Degenerate, Volume}
+use Rattle.std.specs.Prelude.{Ok, Err}
 
 -- ---- questions 5 and 6, triangle by triangle
 
@@ -42,21 +39,21 @@ module _ (ps : List Float) where
 
   -- what the triangles come to, and whether each of them passes
   data Walk (m v : Float) (ts : List Tri) : Type 0 where
-    passes : (q w : Float) → foldl (next ps) (Accepted m v) ts ≡ Accepted q w → every fine? ts ≡ true → every inside? ts ≡ true → Walk m v ts
-    five : foldl (next ps) (Accepted m v) ts ≡ Refused (Question 5) → every fine? ts ≡ false → every inside? ts ≡ false → Walk m v ts
-    six : foldl (next ps) (Accepted m v) ts ≡ Refused (Question 6) → every fine? ts ≡ false → Walk m v ts
+    passes : (q w : Float) → foldl (next ps) (accepted m v) ts ≡ accepted q w → every fine? ts ≡ true → every inside? ts ≡ true → Walk m v ts
+    five : foldl (next ps) (accepted m v) ts ≡ Err CornerMissing → every fine? ts ≡ false → every inside? ts ≡ false → Walk m v ts
+    six : foldl (next ps) (accepted m v) ts ≡ Err Degenerate → every fine? ts ≡ false → Walk m v ts
 
   walk : (m v : Float) (ts : List Tri) → Walk m v ts
   unfolding every fine? inside?
   walk m v [] = passes m v refl refl refl
   walk m v (t ∷ ts) = go (outside (length ps / 3) t) refl (degenerate (quality_at ps t)) refl (walk (lesser m (quality_at ps t)) (plus v (wedge_at ps t)) ts)
     where
-      onto : {x : Verdict} → next ps (Accepted m v) t ≡ x → foldl (next ps) (Accepted m v) (t ∷ ts) ≡ foldl (next ps) x ts
+      onto : {x : Verdict} → next ps (accepted m v) t ≡ x → foldl (next ps) (accepted m v) (t ∷ ts) ≡ foldl (next ps) x ts
       onto e = ap (λ (x : Verdict). foldl (next ps) x ts) e
 
       go : (o : Bool) → outside (length ps / 3) t ≡ o → (d : Bool) → degenerate (quality_at ps t) ≡ d → Walk (lesser m (quality_at ps t)) (plus v (wedge_at ps t)) ts → Walk m v (t ∷ ts)
-      go true p d q w = five (onto (by_tests ps m v t p q) ∙ refused ps (Question 5) ts) (rw p refl) (rw p refl)
-      go false p true q w = six (onto (by_tests ps m v t p q) ∙ refused ps (Question 6) ts) (rw (p, q) refl)
+      go true p d q w = five (onto (by_tests ps m v t p q) ∙ refused ps CornerMissing ts) (rw p refl) (rw p refl)
+      go false p true q w = six (onto (by_tests ps m v t p q) ∙ refused ps Degenerate ts) (rw (p, q) refl)
       go false p false q (passes x y e f g) = passes x y (onto (by_tests ps m v t p q) ∙ e) (rw (p, q) f) (rw p g)
       go false p false q (five e f g) = five (onto (by_tests ps m v t p q) ∙ e) (rw (p, q) f) (rw p g)
       go false p false q (six e f) = six (onto (by_tests ps m v t p q) ∙ e) (rw (p, q) f)
@@ -74,22 +71,22 @@ below e f k l = neither (subst (λ (n : ℕ). n < 31) (sym (ap number_of e)) k) 
 along : {x y x' y' : Verdict} → x ≡ x' → y ≡ y' → Alike x' y' → Alike x y
 along {x} {y} {x'} {y'} e f a = subst (λ (z : Verdict). Alike z y) (sym e) (subst (λ (z : Verdict). Alike x' z) (sym f) a)
 
-closed-low : (d : Bool) (q v : Float) → number_of (cond d (Refused (Question 8)) (Accepted q v)) < 31
+closed-low : (d : Bool) (q v : Float) → number_of (cond d (Err Volume) (accepted q v)) < 31
 closed-low true q v = omega arith
 closed-low false q v = omega arith
 
-whole-alike : (ts us : List Tri) → on_finding (finding ts) ≡ on_finding (finding us) → (q v q' v' : Float) → Alike (as_whole ts (Accepted q v)) (as_whole us (Accepted q' v'))
+whole-alike : (ts us : List Tri) → on_finding (finding ts) ≡ on_finding (finding us) → (q v q' v' : Float) → Alike (as_whole ts (accepted q v)) (as_whole us (accepted q' v'))
 whole-alike ts us e q v q' v' = go (on_finding (finding us)) refl
   where
-    go : (a : Asked) → on_finding (finding us) ≡ a → Alike (as_whole ts (Accepted q v)) (as_whole us (Accepted q' v'))
-    go (asked.Refused why) p = equal (by_whole ts q v (e ∙ p) refl ∙ sym (by_whole us q' v' p refl))
-    go asked.Passed p = below (by_whole ts q v (e ∙ p) refl) (by_whole us q' v' p refl) (closed-low (degenerate v) q v) (closed-low (degenerate v') q' v')
+    go : (a : Asked) → on_finding (finding us) ≡ a → Alike (as_whole ts (accepted q v)) (as_whole us (accepted q' v'))
+    go (Err why) p = equal (by_whole ts q v (e ∙ p) refl ∙ sym (by_whole us q' v' p refl))
+    go (Ok tt) p = below (by_whole ts q v (e ∙ p) refl) (by_whole us q' v' p refl) (closed-low (degenerate v) q v) (closed-low (degenerate v') q' v')
 
 module _ (ps : List Float) (c ls c' ls' w w' : List ℕ) (r : RelistedLists c ls c' ls') (e : length w ≡ length w') where
   lent' : lent_questions ps c ls w ≡ lent_questions ps c' ls' w'
   lent' = lent-relisted r ps w w' e
 
-  module _ (passed : lent_questions ps c ls w ≡ asked.Passed) where
+  module _ (passed : lent_questions ps c ls w ≡ Ok tt) where
     threes : length c % 3 ≡ 0
     threes = (lent-passed ps c ls w passed).0.corners
 
@@ -156,17 +153,17 @@ module _ (ps : List Float) (c ls c' ls' w w' : List ℕ) (r : RelistedLists c ls
             go (five f g h) (six f' g') = absurd (no-six' (ap number_of (reached' ∙ ap (as_whole (triangles c')) f')))
 
   -- questions 1 to 4, or the others
-  cases : (lent_questions ps c ls w ≡ asked.Passed → Alike (validated ps c ls w) (validated ps c' ls' w')) → Alike (validated ps c ls w) (validated ps c' ls' w')
+  cases : (lent_questions ps c ls w ≡ Ok tt → Alike (validated ps c ls w) (validated ps c' ls' w')) → Alike (validated ps c ls w) (validated ps c' ls' w')
   cases f = go (lent_questions ps c ls w) refl
     where
       go : (a : Asked) → lent_questions ps c ls w ≡ a → Alike (validated ps c ls w) (validated ps c' ls' w')
-      go asked.Passed p = f p
-      go (asked.Refused why) p = equal (by_first ps c ls w p ∙ sym (by_first ps c' ls' w' (sym lent' ∙ p)))
+      go (Ok tt) p = f p
+      go (Err why) p = equal (by_first ps c ls w p ∙ sym (by_first ps c' ls' w' (sym lent' ∙ p)))
 
   pub relisted-alike : (number_of (validated ps c ls w) ≡ 6 → ⊥) → (number_of (validated ps c' ls' w') ≡ 6 → ⊥) → Alike (validated ps c ls w) (validated ps c' ls' w')
   relisted-alike n n' = cases (λ p. go p (ℕ_discrete (length c) 0))
     where
-      go : lent_questions ps c ls w ≡ asked.Passed → Dec (length c ≡ 0) → Alike (validated ps c ls w) (validated ps c' ls' w')
+      go : lent_questions ps c ls w ≡ Ok tt → Dec (length c ≡ 0) → Alike (validated ps c ls w) (validated ps c' ls' w')
       go p (yes z) = empty p z
       go p (no some) = whole p some (fine-same p some n n')
 
@@ -176,6 +173,6 @@ reordered-alike ps c ls c' ls' w w' r e = cases ps c ls c' ls' w w' k e (λ p. g
     k : RelistedLists c ls c' ls'
     k = reordered-relisted r
 
-    go : lent_questions ps c ls w ≡ asked.Passed → Dec (length c ≡ 0) → Alike (validated ps c ls w) (validated ps c' ls' w')
+    go : lent_questions ps c ls w ≡ Ok tt → Dec (length c ≡ 0) → Alike (validated ps c ls w) (validated ps c' ls' w')
     go p (yes z) = empty ps c ls c' ls' w w' k e p z
     go p (no some) = let l = (lent-passed ps c ls w p).0 in whole ps c ls c' ls' w w' k e p some (every_perm (fine? ps) (triangles-reordered r l.corners l.labels))

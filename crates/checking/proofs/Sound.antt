@@ -16,34 +16,33 @@ use Rattle.surface.specs.Closed.{Differ}
 use Rattle.surface.proofs.Flat.{length-triangles, place-triangles}
 use Rattle.questions.specs.Refusal.{refusal_number}
 use Rattle.questions.specs.declared.Refusal.{Refusal}
-use Rattle.questions.specs.declared.Refusal.TheVariants.{Question}
 use Rattle.quality.specs.Quality.{number, degenerate}
 use Rattle.quality.proofs.Distinct.{apart}
 use Rattle.quality.proofs.Lesser.{kept_positive, one_positive, Lesser, itself, lesser_positive}
-use Rattle.checking.specs.Verdict.{number_of}
+use Rattle.checking.specs.Verdict.{Verdict, accepted, number_of, quality_of}
 use Rattle.checking.specs.Validate.{placed, outside, quality_at, next, measured}
-use Rattle.checking.specs.declared.Verdict.{Verdict}
-use Rattle.checking.specs.declared.Verdict.TheVariants.{Accepted, Refused}
 use Rattle.checking.proofs.Turns.{Within, within, taken, by_tests, refused}
+use Rattle.questions.specs.declared.Refusal.TheVariants.{CornerMissing, Degenerate}
+use Rattle.std.specs.Prelude.{Err}
 
 -- ---- one triangle
 
 record Fine (ps : List Float) (m v : Float) (t : Tri) : Type 0 where
   inside : outside (length ps / 3) t ≡ false
   kept : degenerate (quality_at ps t) ≡ false
-  goes : next ps (Accepted m v) t ≡ taken ps m v t
+  goes : next ps (accepted m v) t ≡ taken ps m v t
 
 record Ends (ps : List Float) (m v : Float) (t : Tri) : Type 0 where
-  why : ℕ
-  late : 4 < why
-  goes : next ps (Accepted m v) t ≡ Refused (Question why)
+  why : Refusal
+  late : 4 < refusal_number why
+  goes : next ps (accepted m v) t ≡ Err why
 
 cases : (ps : List Float) (m v : Float) (t : Tri) → Fine ps m v t ⊎ Ends ps m v t
 cases ps m v t = go (outside (length ps / 3) t) refl (degenerate (quality_at ps t)) refl
   where
     go : (o : Bool) → outside (length ps / 3) t ≡ o → (d : Bool) → degenerate (quality_at ps t) ≡ d → Fine ps m v t ⊎ Ends ps m v t
-    go true e d g = inr (record { why = 5; late = omega arith; goes = by_tests ps m v t e g })
-    go false e true g = inr (record { why = 6; late = omega arith; goes = by_tests ps m v t e g })
+    go true e d g = inr (record { why = CornerMissing; late = omega arith; goes = by_tests ps m v t e g })
+    go false e true g = inr (record { why = Degenerate; late = omega arith; goes = by_tests ps m v t e g })
     go false e false g = inl (record { inside = e; kept = g; goes = by_tests ps m v t e g })
 
 -- the corners of a triangle whose quality is kept differ, since their points do
@@ -61,17 +60,17 @@ pub record Taken (ps : List Float) (least : Float) (t : Tri) : Type 0 where
   pub bounds : T (le least (quality_at ps t))
 
 -- a refusal is no acceptance
-pub never : {why : Refusal} {q v : Float} → Refused why ≡ Accepted q v → ⊥
-never e = let z : ◌≡◌ {A = ℕ} 0 1 = cc in omega arith
+pub never : {why : Refusal} {q v : Float} → Err why ≡ accepted q v → ⊥
+never e = cc
 
 first_or : (ps : List Float) (least : Float) (t : Tri) (ts : List Tri) → Taken ps least t → ((i : ℕ) → i < length ts → Taken ps least (get_or ts i (tri 0 0 0))) → (i : ℕ) → i < length (t ∷ ts) → Taken ps least (get_or (t ∷ ts) i (tri 0 0 0))
 first_or ps least t ts h k zero l = h
 first_or ps least t ts h k (suc i) l = k i (le_of_suc-le-suc l)
 
-all-taken : (ps : List Float) (m v : Float) (ts : List Tri) (m' v' : Float) → T (positive m) → foldl (next ps) (Accepted m v) ts ≡ Accepted m' v'
+all-taken : (ps : List Float) (m v : Float) (ts : List Tri) (m' v' : Float) → T (positive m) → foldl (next ps) (accepted m v) ts ≡ accepted m' v'
     → T (positive m') × T (le m' m) × ((i : ℕ) → i < length ts → Taken ps m' (get_or ts i (tri 0 0 0)))
 all-taken ps m v [] m' v' M e =
-    let p : m ≡ m' = cc in
+    let p : m ≡ m' = ap quality_of e in
     (subst (λ (x : Float). T (positive x)) p M, subst (λ (x : Float). T (le x m)) p (itself m M), λ i h. absurd (omega arith))
 all-taken ps m v (t ∷ ts) m' v' M e = elim (cases ps m v t) [
   | inl g ↦
@@ -90,39 +89,39 @@ all-taken ps m v (t ∷ ts) m' v' M e = elim (cases ps m v t) [
             })
             r.2,
       )
-  | inr g ↦ absurd (never (sym (ap (λ (s : Verdict). foldl (next ps) s ts) g.goes ∙ refused ps (Question g.why) ts) ∙ e))
+  | inr g ↦ absurd (never (sym (ap (λ (s : Verdict). foldl (next ps) s ts) g.goes ∙ refused ps g.why ts) ∙ e))
 ]
 
 -- a refusal by a triangle is 5 or 6
-pub late : (ps : List Float) (ts : List Tri) (m v : Float) (why : Refusal) → foldl (next ps) (Accepted m v) ts ≡ Refused why → 4 < refusal_number why
+pub late : (ps : List Float) (ts : List Tri) (m v : Float) (why : Refusal) → foldl (next ps) (accepted m v) ts ≡ Err why → 4 < refusal_number why
 late ps [] m v why e = absurd (never (sym e))
 late ps (t ∷ ts) m v why e = elim (cases ps m v t) [
   | inl g ↦ late ps ts _ _ why (sym (ap (λ (s : Verdict). foldl (next ps) s ts) g.goes) ∙ e)
   | inr g ↦
-      let q : Refused (Question g.why) ≡ Refused why = sym (ap (λ (s : Verdict). foldl (next ps) s ts) g.goes ∙ refused ps (Question g.why) ts) ∙ e in
-      let same : g.why ≡ refusal_number why = ap number_of q in
+      let q : Err g.why ≡ Err why = sym (ap (λ (s : Verdict). foldl (next ps) s ts) g.goes ∙ refused ps g.why ts) ∙ e in
+      let same : refusal_number g.why ≡ refusal_number why = ap number_of q in
       omega (arith, g.late)
 ]
 
-pub measured_late : (ps : List Float) (cs : List ℕ) (why : Refusal) → measured ps cs ≡ Refused why → 4 < refusal_number why
+pub measured_late : (ps : List Float) (cs : List ℕ) (why : Refusal) → measured ps cs ≡ Err why → 4 < refusal_number why
 unfolding measured
 measured_late ps cs why e = late ps (triangles cs) (number 1) (number 0) why e
 
 -- ---- the whole list
 
-pub record Measures (ps : List Float) (ts : List Tri) (least : Float) : Type 0 where
+pub record AllTaken (ps : List Float) (ts : List Tri) (least : Float) : Type 0 where
   pub above : T (positive least)
   pub at_most_one : T (le least (number 1))
   pub every : (i : ℕ) → i < length ts → Taken ps least (get_or ts i (tri 0 0 0))
 
-pub measures : (ps : List Float) (cs : List ℕ) (least volume : Float) → measured ps cs ≡ Accepted least volume → Measures ps (triangles cs) least
+pub measures : (ps : List Float) (cs : List ℕ) (least volume : Float) → measured ps cs ≡ accepted least volume → AllTaken ps (triangles cs) least
 unfolding measured
 measures ps cs least volume e =
     let r = all-taken ps (number 1) (number 0) (triangles cs) least volume one_positive e in
     record { above = r.0; at_most_one = r.1; every = r.2 }
 
 -- so every corner is on the list
-pub corners-below : (ps : List Float) (cs : List ℕ) (least : Float) → length cs % 3 ≡ 0 → Measures ps (triangles cs) least → (k : ℕ) → k < length cs → get_or cs k 0 < length ps / 3
+pub corners-below : (ps : List Float) (cs : List ℕ) (least : Float) → length cs % 3 ≡ 0 → AllTaken ps (triangles cs) least → (k : ℕ) → k < length cs → get_or cs k 0 < length ps / 3
 corners-below ps cs least h m k l = go (k / 3) refl (k % 3) refl
   where
     inside : (i : ℕ) → 3 * i + 2 < length cs → Within (length ps / 3) (tri (get_or cs (3 * i) 0) (get_or cs (3 * i + 1) 0) (get_or cs (3 * i + 2) 0))

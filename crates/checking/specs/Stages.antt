@@ -4,8 +4,9 @@ use Rattle.surface.specs.Triangle.{Tri, tri, triangles}
 use Rattle.closing.specs.Closing.{Zeroed}
 use Rattle.questions.specs.Questions.{needed, cleared}
 use Rattle.checking.specs.Validate.{as_whole, examined}
-use Rattle.checking.specs.declared.Verdict.{Verdict}
-use Rattle.checking.specs.declared.Verdict.TheVariants.{Accepted}
+use Rattle.checking.specs.Verdict.{Verdict}
+use Rattle.checking.specs.declared.Measures.{Measures}
+use Rattle.std.specs.Prelude.{Ok}
 
 -- the triangle of a list of three corner numbers
 abbrev pub tri_of : List ℕ → Tri
@@ -23,6 +24,6 @@ pub record Examined (points : List Float) (corners work work' : List ℕ) (verdi
   pub answer : verdict ≡ examined points corners
   pub words : work' ≡ cleared (needed points corners) work
 
-pub record WholeAsked (corners : List ℕ) (p : ℕ) (quality volume : Float) (work work' : List ℕ) (verdict : Verdict) : Type 0 where
-  pub answer : verdict ≡ as_whole (triangles corners) (Accepted quality volume)
+pub record WholeAsked (corners : List ℕ) (p : ℕ) (measures : Measures) (work work' : List ℕ) (verdict : Verdict) : Type 0 where
+  pub answer : verdict ≡ as_whole (triangles corners) (Ok measures)
   pub words : Zeroed corners p work work'

@@ -8,14 +8,11 @@ use Rattle.float.specs.declared.Point.{Point}
 use Rattle.surface.specs.Triangle.{Tri, triangles}
 use Rattle.surface.specs.Finding.{finding}
 use Rattle.questions.specs.Questions.{lent_questions, work_after}
-use Rattle.questions.specs.Refusal.{on_finding}
-use Rattle.questions.specs.declared.Refusal.TheVariants.{Question}
-use Rattle.questions.specs.declared.Asked.{Asked}
-use Rattle.questions.specs.declared.Asked.TheVariants as asked
+use Rattle.questions.specs.Refusal.{on_finding, Asked}
 use Rattle.quality.specs.Quality.{number, quality, wedge, degenerate}
-use Rattle.checking.specs.Verdict.{number_of}
-use Rattle.checking.specs.declared.Verdict.{Verdict}
-use Rattle.checking.specs.declared.Verdict.TheVariants.{Accepted, Refused}
+use Rattle.checking.specs.Verdict.{Verdict, accepted, number_of}
+use Rattle.questions.specs.declared.Refusal.TheVariants.{CornerMissing, Degenerate, Volume}
+use Rattle.std.specs.Prelude.{Ok, Err}
 
 -- the point of a number, and the same measured from point 0
 abbrev pub point_at : List Float → ℕ → Point
@@ -36,33 +33,33 @@ outside n t = leb n t.a || (leb n t.b || leb n t.c)
 
 -- Questions 5 and 6 of one more triangle: are its corners on the list, and is its quality finite and above 0? Then its quality may lower the minimum, and its share goes to the volume.
 unfoldable pub next : List Float → Verdict → Tri → Verdict
-next points (Refused why) t = Refused why
-next points (Accepted minimum volume) t =
-    cond (outside (length points / 3) t) (Refused (Question 5))
-    (cond (degenerate (quality_at points t)) (Refused (Question 6))
-    (Accepted (lesser minimum (quality_at points t)) (plus volume (wedge_at points t))))
+next points (Err why) t = Err why
+next points (Ok so_far) t =
+    cond (outside (length points / 3) t) (Err CornerMissing)
+    (cond (degenerate (quality_at points t)) (Err Degenerate)
+    (accepted (lesser so_far.quality (quality_at points t)) (plus so_far.volume (wedge_at points t))))
 
 -- triangle by triangle, the minimum from 1 and the volume from 0
 unfoldable pub measured : List Float → List ℕ → Verdict
 unfolding next
-measured points corners = foldl (next points) (Accepted (number 1) (number 0)) (triangles corners)
+measured points corners = foldl (next points) (accepted (number 1) (number 0)) (triangles corners)
 
 -- the verdict where questions come before it
 abbrev pub verdict_after : Asked → Verdict → Verdict
-verdict_after asked.Passed verdict = verdict
-verdict_after (asked.Refused why) verdict = Refused why
+verdict_after (Ok _) verdict = verdict
+verdict_after (Err why) verdict = Err why
 
 -- Questions 7 and 8, of the whole: do (b) and (c) hold, and is the volume finite and above 0?
 abbrev pub as_whole : List Tri → Verdict → Verdict
-as_whole ts (Refused why) = Refused why
-as_whole ts (Accepted minimum volume) =
-    verdict_after (on_finding (finding ts)) (cond (degenerate volume) (Refused (Question 8)) (Accepted minimum volume))
+as_whole ts (Err why) = Err why
+as_whole ts (Ok measures) =
+    verdict_after (on_finding (finding ts)) (cond (degenerate measures.volume) (Err Volume) (Ok measures))
 
 -- Questions 5 to 8; without triangles none is asked, and the surface is accepted with 0 and 0
 unfoldable pub examined : List Float → List ℕ → Verdict
 unfolding measured finding
 examined points corners =
-    cond (eqb (length corners) 0) (Accepted (number 0) (number 0)) (as_whole (triangles corners) (measured points corners))
+    cond (eqb (length corners) 0) (accepted (number 0) (number 0)) (as_whole (triangles corners) (measured points corners))
 
 -- the verdict: questions 1 to 4, then the others
 unfoldable pub validated : (points : List Float) (corners labels work : List ℕ) → Verdict

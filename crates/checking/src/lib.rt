@@ -1,7 +1,7 @@
 // `validate`: whether a surface is closed and encloses a volume, its smallest quality and that volume.
 #![tactic(auto)]
 
-ghost use Rattle.std.specs.Prelude.{◌≡◌, [], ◌∷◌, ◌+◌, ◌/◌, ◌<◌, length, get_or};
+ghost use Rattle.std.specs.Prelude.{◌≡◌, ◌/◌, ◌<◌, length, Ok};
 ghost use Rattle.float.specs.Point.{difference};
 ghost use Rattle.quality.specs.Quality.{scale};
 ghost use Rattle.closing.specs.Closing.{Lent};
@@ -9,16 +9,17 @@ ghost use Rattle.checking.specs.Validate.{point_at, outside, next, measured, Val
 ghost use Rattle.checking.specs.Stages.{tri_of, Sized, Examined, WholeAsked};
 
 use halfedges::wide;
-use questions::{Asked, Refusal};
+use questions::Refusal;
+use surface::Mesh;
 
-// Accepted with the smallest quality and the volume, or refused.
-#[derive(Clone, Copy)]
-pub enum Verdict {
-    Accepted(f64, f64),
-    Refused(Refusal),
+// The smallest quality and the volume.
+#[derive(Clone, Copy, Debug, PartialEq)]
+pub struct Measures {
+    pub quality: f64,
+    pub volume: f64,
 }
 
-// The point of a number.
+// The point of a number. (`float` has its twin `point_at`: this one asks only that the number is below how many points there are, and is by 3 * i, as the theorems have it.)
 pub fn point(points: &[f64], i: usize) -> float::Point
     requires { i < length points.now / 3 }
     ensures { result ≡ point_at points.now i }
@@ -45,25 +46,11 @@ fn origin(points: &[f64]) -> float::Point
     point(points, 0)
 }
 
-// The triangle whose corners start at a place of the list.
-fn triangle(corners: &[u32], at: usize) -> [u32; 3]
-    requires { at + 2 < length corners.now }
-    ensures { result ≡ get_or corners.now at 0 ∷ get_or corners.now (at + 1) 0 ∷ get_or corners.now (at + 2) 0 ∷ [] }
-{
-    [corners[at], corners[at + 1], corners[at + 2]]
-}
-
 // Whether a corner of the triangle is not below n.
 fn beyond(n: usize, t: [u32; 3]) -> bool
     ensures { result ≡ outside n (tri_of t) }
 {
-    if n <= wide(t[0]) {
-        return true;
-    }
-    if n <= wide(t[1]) {
-        return true;
-    }
-    n <= wide(t[2])
+    t.iter().any(|v| n <= wide(*v))
 }
 
 // A corner's point less the origin.
@@ -74,103 +61,92 @@ fn place(points: &[f64], i: usize, origin: float::Point) -> float::Point
     point(points, i).sub(origin)
 }
 
-// The verdict after one more triangle.
+// The measures with one more triangle, or why it is refused.
 fn step(
     points: &[f64],
     origin: float::Point,
     factor: f64,
     t: [u32; 3],
-    minimum: f64,
-    volume: f64,
-) -> Verdict
+    so_far: Measures,
+) -> Result<Measures, Refusal>
     requires { (factor ≡ scale) × (0 < length points.now / 3 → origin ≡ point_at points.now 0) }
-    ensures { result ≡ next points.now (Verdict.Accepted minimum volume) (tri_of t) }
+    ensures { result ≡ next points.now (Ok so_far) (tri_of t) }
 {
     if beyond(points.len() / 3, t) {
-        return Verdict::Refused(Refusal::Question(5));
+        return Err(Refusal::CornerMissing);
     }
     let a = place(points, wide(t[0]), origin);
     let b = place(points, wide(t[1]), origin);
     let c = place(points, wide(t[2]), origin);
-    match quality::least(factor, minimum, a, b, c) {
-        quality::Rated::Kept(q) => Verdict::Accepted(q, volume + quality::share(a, b, c)),
-        quality::Rated::Degenerate => Verdict::Refused(Refusal::Question(6)),
-    }
+    let Some(quality) = quality::least(factor, so_far.quality, a, b, c) else {
+        return Err(Refusal::Degenerate);
+    };
+    let volume = so_far.volume + quality::share(a, b, c);
+    Ok(Measures { quality, volume })
 }
 
 // Questions 5 and 6, triangle by triangle, with the smallest quality and the volume. What is left over of either list is not read.
-fn measure(points: &[f64], corners: &[u32]) -> Verdict
+fn measure(points: &[f64], corners: &[u32]) -> Result<Measures, Refusal>
     ensures { result ≡ measured points.now corners.now }
 {
     let origin = origin(points);
     let factor = quality::factor();
-    let mut minimum = 1.0;
-    let mut volume = 0.0;
-    let mut at = 0;
-    while 2 < corners.len() - at {
-        let t = triangle(corners, at);
-        match step(points, origin, factor, t, minimum, volume) {
-            Verdict::Accepted(q, v) => {
-                minimum = q;
-                volume = v;
-            }
-            Verdict::Refused(why) => {
-                return Verdict::Refused(why);
-            }
-        }
-        at += 3;
+    let mut so_far = Measures {
+        quality: 1.0,
+        volume: 0.0,
+    };
+    for t in corners.chunks_exact(3) {
+        so_far = step(points, origin, factor, [t[0], t[1], t[2]], so_far)?;
     }
-    Verdict::Accepted(minimum, volume)
+    Ok(so_far)
 }
 
-// Questions 7 and 8, of a surface with this smallest quality and this volume.
-fn whole(corners: &[u32], points: usize, quality: f64, volume: f64, work: &mut [u32]) -> Verdict
+// Questions 7 and 8, of a surface with these measures.
+fn whole(
+    corners: &[u32],
+    points: usize,
+    measures: Measures,
+    work: &mut [u32],
+) -> Result<Measures, Refusal>
     requires { Lent corners.now points work.old }
-    ensures { WholeAsked corners.now points quality volume work.old work.new result }
+    ensures { WholeAsked corners.now points measures work.old work.new result }
 {
     let found = closing::finding(corners, points, work);
-    if let Asked::Refused(why) = questions::on_finding(found) {
-        return Verdict::Refused(why); // not closed
+    questions::on_finding(found)?;
+    if !float::is_finite(measures.volume) {
+        return Err(Refusal::Volume);
     }
-    if !float::is_finite(volume) {
-        return Verdict::Refused(Refusal::Question(8));
+    if measures.volume <= 0.0 {
+        return Err(Refusal::Volume);
     }
-    if volume <= 0.0 {
-        return Verdict::Refused(Refusal::Question(8));
-    }
-    Verdict::Accepted(quality, volume)
+    Ok(measures)
 }
 
 // Questions 5 to 8.
-fn examine(points: &[f64], corners: &[u32], work: &mut [u32]) -> Verdict
+fn examine(points: &[f64], corners: &[u32], work: &mut [u32]) -> Result<Measures, Refusal>
     requires { Sized points.now corners.now work.old }
     ensures { Examined points.now corners.now work.old work.new result }
 {
-    if corners.len() == 0 {
+    if corners.is_empty() {
         closing::clear_needed(corners, points.len() / 3, work);
-        return Verdict::Accepted(0.0, 0.0);
+        return Ok(Measures {
+            quality: 0.0,
+            volume: 0.0,
+        });
     }
     match measure(points, corners) {
-        Verdict::Accepted(quality, volume) => whole(
-            corners,
-            points.len() / 3,
-            quality,
-            volume,
-            work,
-        ),
-        Verdict::Refused(why) => {
+        Ok(measures) => whole(corners, points.len() / 3, measures, work),
+        Err(why) => {
             closing::clear_needed(corners, points.len() / 3, work);
-            Verdict::Refused(why)
+            Err(why)
         }
     }
 }
 
-// The verdict on a surface: points three numbers each, triangles three corner numbers each, a label for each triangle.
-pub fn validate(points: &[f64], corners: &[u32], labels: &[u8], work: &mut [u32]) -> Verdict
-    ensures { Validated points.now corners.now labels.now work.old work.new result }
+// The verdict on a surface.
+pub fn validate(mesh: &Mesh, work: &mut [u32]) -> Result<Measures, Refusal>
+    ensures { Validated mesh.now.points.now mesh.now.corners.now mesh.now.labels.now work.old work.new result }
 {
-    if let Asked::Refused(why) = questions::lent(points, corners, labels, work) {
-        return Verdict::Refused(why);
-    }
-    examine(points, corners, work)
+    questions::lent(mesh, work)?;
+    examine(mesh.points, mesh.corners, work)
 }

@@ -9,7 +9,7 @@ use lib.Seq.{get_or-set_same, get_or-set_other, drop-set-lt}
 use Rattle.halfedges.specs.Place.{at, last, Sized, Linked, stamp}
 use Rattle.halfedges.proofs.Chains.{last_le, last-names}
 use Rattle.halfedges.proofs.Turns.{same_or, sized_other}
-use Rattle.closing.specs.Locating.{hits, Some, StampsMean}
+use Rattle.closing.specs.Locating.{hits, One, StampsMean}
 use Rattle.closing.specs.Stages.{used, Ready}
 use Rattle.closing.proofs.Hits.{hits_yes, hits_no, hits_le, hits-last}
 
@@ -52,7 +52,7 @@ module _ {g : ℕ → ℕ} {c : List ℕ} {p u q k x q' : ℕ} (turn : Turn g c 
   pub count-on : (y : ℕ) → hits g c u y q' ≤ hits g c u y q
   count-on y = omega (arith, before-k y, hits_le g c u y k q (omega (arith, turn.is)))
 
-  pub some-here : Some g c u q' x
+  pub some-here : One g c u q' x
   some-here = omega (arith, count-here, hits_le g c u x q (length c) (omega (arith, turn.is, turn.low)))
 
 -- ---- the stamps
@@ -119,7 +119,7 @@ module _ {g : ℕ → ℕ} {c : List ℕ} {p u q k x a : ℕ} {w₀ w w' : List 
               (same_or z x);
           found = λ z l e.
               ⊎_elim
-              (λ (i : z ≡ x). subst (Some g c u q') (sym i) (some-here turn on))
+              (λ (i : z ≡ x). subst (One g c u q') (sym i) (some-here turn on))
               (λ (n : z ≡ x → ⊥). let s = h.met.found z l (sym (stamp_other z n) ∙ e) in omega (arith, count_other turn on z n))
               (same_or z x);
         };

@@ -1,9 +1,10 @@
 -- From stage to stage of the whole check.
-use Prim.Native.Nat.{ℕ, zero, suc, ◌+◌, ◌-◌, ◌%◌, ◌≤◌, ◌<◌}
+use Prim.Native.Nat.{ℕ, ◌+◌, ◌-◌, ◌%◌, ◌≤◌, ◌<◌}
 use mathlib.Core.Path.{◌≡◌, refl, sym, ap, ◌∙◌, subst}
 use mathlib.Core.Bool.{Bool, true, false}
 use mathlib.Core.List.{List, ◌++◌}
 use native.Mathlib.Omega.{arith}
+use Rattle.std.specs.Prelude.{Option, None, Some}
 use lib.Dec.{ltb}
 use lib.ListN.{length, drop, replicate, length-replicate, get_or-replicate, get_or-append, replicate-append-replicate}
 use lib.Seq.{drop-drop, drop_at}
@@ -15,7 +16,7 @@ use Rattle.halfedges.proofs.Fine.{Fine, fine_of, rounded_of, fine-unused, unused
 use Rattle.halfedges.proofs.Steps.{length_pl}
 use Rattle.halfedges.proofs.Whole.{Enough}
 use Rattle.closing.specs.Closing.{needed, Lent, Zeroed}
-use Rattle.closing.specs.Stages.{used, Chained, Ready, PastUnringed}
+use Rattle.closing.specs.Stages.{used, Chained, Ready, IsUnringed}
 
 pub zero-at : (n i : ℕ) (w t : List ℕ) → w ≡ replicate n 0 ++ t → i < n → at w i ≡ 0
 zero-at n i w t e l =
@@ -92,17 +93,17 @@ module _ (c : List ℕ) (p : ℕ) (w₀ : List ℕ) (given : Lent c p w₀) wher
       go false e = λ q. absurd (omega (arith, q, length_pl c v (length c), unused-past c v p given.below (ltb-false v p e)))
 
   -- no corner is found: all are fine, and have enough
-  module _ {m r : ℕ} (h : PastUnringed c p m r) where
-    pub all-ringed : r ≡ 0 → Manifold (triangles c)
+  module _ {m : ℕ} {r : Option ℕ} (h : IsUnringed c p m r) where
+    pub all-ringed : r ≡ None → Manifold (triangles c)
     all-ringed z = rounded_of c given.thirds (all-fine (h.fine z))
 
-    pub all_more : r ≡ 0 → (v : ℕ) → Enough c m v
+    pub all_more : r ≡ None → (v : ℕ) → Enough c m v
     all_more z = all-enough m (h.more z)
 
     -- and the other way round
-    pub none_unringed : Manifold (triangles c) → ((v : ℕ) → Enough c m v) → r ≡ 0
+    pub none_unringed : Manifold (triangles c) → ((v : ℕ) → Enough c m v) → r ≡ None
     none_unringed k e = go r refl
       where
-        go : (n : ℕ) → r ≡ n → r ≡ 0
-        go zero q = q
-        go (suc v) q = absurd ((h.first v q).nay (fine_of c given.thirds k v) (e v))
+        go : (o : Option ℕ) → r ≡ o → r ≡ None
+        go None q = q
+        go (Some v) q = absurd ((h.first v q).nay (fine_of c given.thirds k v) (e v))

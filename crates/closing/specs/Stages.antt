@@ -1,5 +1,5 @@
 -- What each stage of the judgement is handed, and what it leaves. Definitions only; only the proofs of `closing` read them.
-use Rattle.std.specs.Prelude.{ℕ, suc, ◌+◌, ◌<◌, ◌≤◌, ◌≡◌, Bool, true, false, List, length, drop}
+use Rattle.std.specs.Prelude.{ℕ, suc, ◌+◌, ◌<◌, ◌≤◌, ◌≡◌, Bool, true, false, Option, None, Some, List, length, drop}
 use Rattle.halfedges.specs.Place.{at, Sized, Linked, stamp, Stamped, Noted, Once, uses}
 use Rattle.halfedges.proofs.Fine.{Fine}
 use Rattle.halfedges.proofs.Whole.{Enough, Differing}
@@ -22,13 +22,13 @@ pub record Ready (c : List ℕ) (p : ℕ) (w : List ℕ) (v : ℕ) : Type 0 wher
   pub linked : Linked c p w (length c)
   pub stamped : Stamped p w v
 
--- after the steps of v are noted, r of them, or none where two leave one corner
-pub record Entered (c : List ℕ) (p v : ℕ) (w w' : List ℕ) (r : ℕ) : Type 0 where
+-- after the steps of v are noted: their number, or none where two leave one corner
+pub record Entered (c : List ℕ) (p v : ℕ) (w w' : List ℕ) (r : Option ℕ) : Type 0 where
   pub ready : Ready c p w' (suc v)
   pub far : drop (used c p) w' ≡ drop (used c p) w
-  pub counted : 0 < r → r ≡ uses c v (length c)
-  pub noted : 0 < r → Noted c p w' v 0
-  pub twice : r ≡ 0 → Once c v → ⊥
+  pub counted : (n : ℕ) → r ≡ Some n → n ≡ uses c v (length c)
+  pub noted : (n : ℕ) → r ≡ Some n → Noted c p w' v 0
+  pub twice : r ≡ None → Once c v → ⊥
 
 -- after the corner v is judged: with a ring of at least m steps, or unused
 pub record Judged (c : List ℕ) (p m v : ℕ) (w w' : List ℕ) (r : Bool) : Type 0 where
@@ -44,19 +44,19 @@ pub record FirstUnringed (c : List ℕ) (p m v : ℕ) : Type 0 where
   pub fine : (u : ℕ) → u < v → Fine c u
   pub nay : Fine c v → Enough c m v → ⊥
 
--- r is one more than the first such corner, and 0 where there is none
-pub record PastUnringed (c : List ℕ) (p m r : ℕ) : Type 0 where
-  pub fine : r ≡ 0 → (v : ℕ) → v < p → Fine c v
-  pub more : r ≡ 0 → (v : ℕ) → v < p → Enough c m v
-  pub first : (v : ℕ) → r ≡ suc v → FirstUnringed c p m v
+-- r is the first such corner, if there is one
+pub record IsUnringed (c : List ℕ) (p m : ℕ) (r : Option ℕ) : Type 0 where
+  pub fine : r ≡ None → (v : ℕ) → v < p → Fine c v
+  pub more : r ≡ None → (v : ℕ) → v < p → Enough c m v
+  pub first : (v : ℕ) → r ≡ Some v → FirstUnringed c p m v
 
-pub record Unringed (c : List ℕ) (p m : ℕ) (w w' : List ℕ) (r : ℕ) : Type 0 where
+pub record Unringed (c : List ℕ) (p m : ℕ) (w w' : List ℕ) (r : Option ℕ) : Type 0 where
   pub far : drop (used c p) w' ≡ drop (used c p) w
-  pub past : PastUnringed c p m r
+  pub corner : IsUnringed c p m r
 
-pub record Settled (c : List ℕ) (p m : ℕ) (w w' : List ℕ) (r : ℕ) : Type 0 where
+pub record Settled (c : List ℕ) (p m : ℕ) (w w' : List ℕ) (r : Option ℕ) : Type 0 where
   pub zeroed : Zeroed c p w w'
-  pub past : PastUnringed c p m r
+  pub corner : IsUnringed c p m r
 
 -- rule (a) decided
 pub record Told (c : List ℕ) (r : Bool) : Type 0 where

@@ -3,6 +3,8 @@
 // and following the notes leads through all of them and back where every reverse is there and the triangles are one ring.
 // Where a corner fails, the place is sought from there on, corner by corner in rising order: the side from u to v is repeated where two places of u run to v, and lone where one runs to v and none comes from v.
 // The work words: from 0 on a head for each point, from points on a stamp and a note for each point, from 3 * points on a link for each place of the corner list.
+// (The indexes are written out by this layout, as the definitions have them: a function for each would need a contract of its own.)
+// (No struct of corners, points and words: the facts that the functions share are of the words, which are lent to be written.)
 #![tactic(auto)]
 
 ghost use Rattle.std.specs.Prelude.{◌≡◌, true, false, ◌++◌, ℕ, suc, ◌+◌, ◌%◌, ◌<◌, ◌≤◌, length, drop, replicate};
@@ -10,10 +12,11 @@ ghost use Rattle.halfedges.specs.Place.{at, hop_to, trip, Sized, Inside};
 ghost use Rattle.surface.specs.Triangle.{triangles};
 ghost use Rattle.closing.specs.Closing.{needed, Lent, Zeroed, Judgement, ClosedDecided};
 ghost use Rattle.closing.specs.Stages.{Chained, Ready, Entered, Judged, FirstUnringed, Unringed, Settled, Told};
+ghost use Rattle.closing.specs.declared.Fault.TheVariants as Fault;
 ghost use Rattle.closing.specs.Locating.{lower, Least, Unmet, Prepared, OriginsStamped, EndSought, NoneBelow, SideSought, Located};
 
 use halfedges::{after, before, wide};
-use surface::Finding;
+use surface::{Finding, triangle_at};
 use words::{ahead, behind, put, word};
 
 // The first count words become 0.
@@ -21,11 +24,7 @@ pub fn clear(work: &mut [u32], count: usize)
     requires { count ≤ length work.old }
     ensures { work.new ≡ replicate count 0 ++ drop count work.old }
 {
-    let mut i: usize = 0;
-    while i < count {
-        work[i] = 0;
-        i += 1;
-    }
+    work[..count].fill(0);
 }
 
 // The words that the surface needs become 0.
@@ -42,19 +41,17 @@ pub fn link_corners(corners: &[u32], points: usize, work: &mut [u32])
     requires by_index { (v : ℕ) → v < points → at work.old v ≡ 0 }
     ensures { Chained corners.now points work.old work.new }
 {
-    let mut k: usize = 0;
-    while k < corners.len() {
+    for k in 0..corners.len() {
         let v = wide(corners[k]);
         work[points + points + points + k] = work[v];
-        k += 1;
-        work[v] = k as u32;
+        work[v] = (k + 1) as u32;
     }
 }
 
-// Notes the step of each place of v under the corner that it leaves. The number of places, or 0 where two leave one corner.
-fn note_steps(corners: &[u32], points: usize, v: usize, work: &mut [u32]) -> usize
+// Notes the step of each place of v under the corner that it leaves. The number of places, or none where two leave one corner.
+fn note_steps(corners: &[u32], points: usize, v: usize, work: &mut [u32]) -> Option<usize>
     requires ready { Ready corners.now points work.old v }
-    requires v_lt_points { (v < points) × (0 < at work.old v) }
+    requires v_lt_points { v < points }
     ensures { Entered corners.now points v work.old work.new result }
 {
     let mut p = wide(work[v]);
@@ -64,28 +61,27 @@ fn note_steps(corners: &[u32], points: usize, v: usize, work: &mut [u32]) -> usi
         let x = wide(corners[after(k)]);
         let slot = points + x + x;
         if wide(work[slot]) == v + 1 {
-            return 0;
+            return None;
         }
         work[slot] = (v + 1) as u32;
         work[slot + 1] = corners[before(k)];
         count += 1;
         p = wide(work[points + points + points + k]);
     }
-    count
+    Some(count)
 }
 
-// One more than the corner that follows x around v; 0 where there is none.
-fn hop(points: usize, v: usize, work: &[u32], x: usize) -> usize
+// The corner that follows x around v.
+fn hop(points: usize, v: usize, work: &[u32], x: usize) -> Option<usize>
     requires inside { Inside points v work.now }
     requires v_lt_points { (v < points) × (x < points) }
     ensures { result ≡ hop_to points v work.now x }
 {
     let slot = points + x + x;
     if wide(work[slot]) == v + 1 {
-        let next = slot + 1;
-        wide(work[next]) + 1
+        Some(wide(work[slot + 1]))
     } else {
-        0
+        None
     }
 }
 
@@ -96,14 +92,11 @@ fn walk_ring(points: usize, v: usize, work: &[u32], first: usize, count: usize) 
     ensures { result ≡ trip (hop_to points v work.now) first count first }
 {
     let mut x = first;
-    let mut left = count;
-    while left > 0 {
-        let m = hop(points, v, work, x);
-        if m == 0 {
+    for left in (0..count).rev() {
+        let Some(next) = hop(points, v, work, x) else {
             return false;
-        }
-        x = m - 1;
-        left -= 1;
+        };
+        x = next;
         if x == first {
             return left == 0;
         }
@@ -122,7 +115,9 @@ fn corner_ringed(corners: &[u32], points: usize, least: usize, v: usize, work: &
         return true; // unused
     }
     let first = wide(corners[after(p - 1)]);
-    let count = note_steps(corners, points, v, work);
+    let Some(count) = note_steps(corners, points, v, work) else {
+        return false;
+    };
     if count < least {
         return false;
     }
@@ -138,55 +133,49 @@ pub fn prepare(corners: &[u32], points: usize, work: &mut [u32])
     link_corners(corners, points, work);
 }
 
-// One more than the first corner in use whose steps are not one ring of at least least steps, with no two from one corner; 0 where there is none.
-fn first_unringed(corners: &[u32], points: usize, least: usize, work: &mut [u32]) -> usize
+// The first corner in use whose steps are not one ring of at least least steps, with no two from one corner.
+fn first_unringed(corners: &[u32], points: usize, least: usize, work: &mut [u32]) -> Option<usize>
     requires ready { Ready corners.now points work.old 0 }
     requires least_nonzero { 0 < least }
     ensures { Unringed corners.now points least work.old work.new result }
 {
-    let mut v: usize = 0;
-    while v < points {
-        let ringed = corner_ringed(corners, points, least, v, work);
-        v += 1;
-        if !ringed {
-            return v;
+    for v in 0..points {
+        if !corner_ringed(corners, points, least, v, work) {
+            return Some(v);
         }
     }
-    0
+    None
 }
 
 // The same of lent words, which are 0 afterwards.
-fn settle(corners: &[u32], points: usize, least: usize, work: &mut [u32]) -> usize
+fn settle(corners: &[u32], points: usize, least: usize, work: &mut [u32]) -> Option<usize>
     requires lent { Lent corners.now points work.old }
     requires least_nonzero { 0 < least }
     ensures { Settled corners.now points least work.old work.new result }
 {
     prepare(corners, points, work);
-    let past = first_unringed(corners, points, least, work);
+    let unringed = first_unringed(corners, points, least, work);
     clear_needed(corners, points, work);
-    past
+    unringed
 }
 
-// The smaller one of x and the best so far, where x is found.
-fn lowered(found: bool, x: usize, best: usize) -> usize
+// The smaller one of x and the best so far, where x is found. (By a flag, so that the loops of both callers have no branch: each turn is one case.)
+fn lowered(found: bool, x: usize, best: Option<usize>) -> Option<usize>
     ensures { result ≡ lower found x best }
 {
     if !found {
         return best;
     }
-    if x < best {
-        return x;
-    }
-    best
+    Some(best.map_or(x, |y| y.min(x)))
 }
 
-// The smallest corner to which two places of u run; points where there is none.
-fn smallest_repeated(corners: &[u32], points: usize, u: usize, work: &mut [u32]) -> usize
+// The smallest corner to which two places of u run.
+fn smallest_repeated(corners: &[u32], points: usize, u: usize, work: &mut [u32]) -> Option<usize>
     requires ready { Ready corners.now points work.old u }
     requires u_lt_points { u < points }
-    ensures { EndSought corners.now points false u work.old work.new result }
+    ensures { EndSought corners.now points Fault.Repeated u work.old work.new result }
 {
-    let mut best = points;
+    let mut best = None;
     let mut p = word(work, u);
     while p > 0 {
         let k = p - 1;
@@ -214,13 +203,13 @@ fn stamp_origins(corners: &[u32], points: usize, u: usize, work: &mut [u32])
     }
 }
 
-// The smallest corner to which a place of u runs and that has no stamp of u; points where there is none.
-fn smallest_unstamped(corners: &[u32], points: usize, u: usize, work: &[u32]) -> usize
+// The smallest corner to which a place of u runs and that has no stamp of u.
+fn smallest_unstamped(corners: &[u32], points: usize, u: usize, work: &[u32]) -> Option<usize>
     requires ready { Ready corners.now points work.now (suc u) }
     requires u_lt_points { u < points }
     ensures { Least (Unmet corners.now points work.now u 0) points result }
 {
-    let mut best = points;
+    let mut best = None;
     let mut p = word(work, u);
     while p > 0 {
         let k = p - 1;
@@ -231,44 +220,53 @@ fn smallest_unstamped(corners: &[u32], points: usize, u: usize, work: &[u32]) ->
     best
 }
 
-// The smallest end of a lone or of a repeated side that starts at u; points where there is none.
-fn smallest_end(corners: &[u32], points: usize, lone: bool, u: usize, work: &mut [u32]) -> usize
+// What is sought of a directed side: that it is repeated, or that it lacks its reverse.
+#[derive(Clone, Copy, Debug, PartialEq, Eq)]
+enum Fault {
+    Repeated,
+    Lone,
+}
+
+// The smallest end of such a side that starts at u.
+fn smallest_end(
+    corners: &[u32],
+    points: usize,
+    fault: Fault,
+    u: usize,
+    work: &mut [u32],
+) -> Option<usize>
     requires ready { Ready corners.now points work.old u }
     requires u_lt_points { u < points }
-    ensures { EndSought corners.now points lone u work.old work.new result }
+    ensures { EndSought corners.now points fault u work.old work.new result }
 {
-    if lone {
-        stamp_origins(corners, points, u, work);
-        return smallest_unstamped(corners, points, u, work);
+    match fault {
+        Fault::Repeated => smallest_repeated(corners, points, u, work),
+        Fault::Lone => {
+            stamp_origins(corners, points, u, work);
+            smallest_unstamped(corners, points, u, work)
+        }
     }
-    smallest_repeated(corners, points, u, work)
 }
 
-// A directed side, or none.
-#[derive(Clone, Copy)]
-enum Side {
-    Found(u32, u32),
-    Nowhere,
-}
-
-// The smallest lone or the smallest repeated side. None starts below v.
-fn first_side(corners: &[u32], points: usize, lone: bool, v: usize, work: &mut [u32]) -> Side
+// The smallest such side. None starts below v.
+fn first_side(
+    corners: &[u32],
+    points: usize,
+    fault: Fault,
+    v: usize,
+    work: &mut [u32],
+) -> Option<(u32, u32)>
     requires lent { Lent corners.now points work.old }
-    requires v_le_points { (v ≤ points) × NoneBelow lone (triangles corners.now) v }
-    ensures { SideSought corners.now points lone work.old work.new result }
+    requires v_le_points { (v ≤ points) × NoneBelow fault (triangles corners.now) v }
+    ensures { SideSought corners.now points fault work.old work.new result }
 {
     prepare(corners, points, work);
-    let mut u = v;
-    while u < points {
-        let end = smallest_end(corners, points, lone, u, work);
-        if end < points {
-            let from = u as u32;
-            let to = end as u32;
-            return Side::Found(from, to);
+    for u in v..points {
+        if let Some(end) = smallest_end(corners, points, fault, u, work) {
+            return Some((u as u32, end as u32));
         }
-        u += 1;
     }
-    Side::Nowhere
+    None
 }
 
 // What is found where v is the first corner whose steps are not one ring: a repeated side first, then a lone side, then v itself.
@@ -277,14 +275,13 @@ fn locate(corners: &[u32], points: usize, v: usize, work: &mut [u32]) -> Finding
     requires first_unringed { FirstUnringed corners.now points 1 v }
     ensures { Located corners.now points work.old work.new result }
 {
-    if let Side::Found(from, to) = first_side(corners, points, false, v, work) {
+    if let Some((from, to)) = first_side(corners, points, Fault::Repeated, v, work) {
         return Finding::Repeated(from, to);
     }
-    if let Side::Found(from, to) = first_side(corners, points, true, v, work) {
+    if let Some((from, to)) = first_side(corners, points, Fault::Lone, v, work) {
         return Finding::Lone(from, to);
     }
-    let corner = v as u32;
-    Finding::Split(corner)
+    Finding::Split(v as u32)
 }
 
 // Judges rules (b) and (c) as the Rust's `closed_oriented_manifold` does, and says where they fail, in time linear in the triangles and the points. Only a surface that is not closed is searched, from the first corner that fails on.
@@ -293,11 +290,10 @@ pub fn finding(corners: &[u32], points: usize, work: &mut [u32]) -> Finding
     requires { Lent corners.now points work.old }
     ensures { Judgement corners.now points work.old work.new result }
 {
-    let past = settle(corners, points, 1, work);
-    if past == 0 {
+    let Some(v) = settle(corners, points, 1, work) else {
         return Finding::Closed;
-    }
-    let found = locate(corners, points, past - 1, work);
+    };
+    let found = locate(corners, points, v, work);
     clear_needed(corners, points, work);
     found
 }
@@ -307,11 +303,8 @@ pub fn corners_differ(corners: &[u32]) -> bool
     requires { (length corners.now % 3 ≡ 0) × (length corners.now ≤ 98304) }
     ensures { Told corners.now result }
 {
-    let mut k: usize = 0;
-    while k < corners.len() {
-        let a = corners[k];
-        let b = corners[k + 1];
-        let c = corners[k + 2];
+    for i in 0..corners.len() / 3 {
+        let [a, b, c] = triangle_at(corners, i);
         if a == b {
             return false;
         }
@@ -321,7 +314,6 @@ pub fn corners_differ(corners: &[u32]) -> bool
         if c == a {
             return false;
         }
-        k += 3;
     }
     true
 }
@@ -335,5 +327,5 @@ pub fn closed_surface(corners: &[u32], points: usize, work: &mut [u32]) -> bool
         clear_needed(corners, points, work);
         return false;
     }
-    settle(corners, points, 3, work) == 0
+    settle(corners, points, 3, work).is_none()
 }

@@ -10,18 +10,11 @@ use std::io;
 use std::io::Write;
 use surface::Finding;
 
-// Whether every corner is below points.
+// Whether every corner is below points. (`questions` has it, on which this program does not stand.)
 fn within(corners: &[u32], points: usize) -> bool
     ensures { result ≡ true → (k : ℕ) → k < length corners.now → get_or corners.now k 0 < points }
 {
-    let mut k: usize = 0;
-    while k < corners.len() {
-        if wide(corners[k]) >= points {
-            return false;
-        }
-        k += 1;
-    }
-    true
+    corners.iter().all(|v| wide(*v) < points)
 }
 
 // The letter of a finding: m closed by rules (b) and (c), r a repeated side, l a lone side, s a split corner.
@@ -45,35 +38,33 @@ fn judged(corners: &[u32], points: usize, work: &mut [u32]) -> u8 {
     if points > 32768 {
         return b'?';
     }
+    // As many work words as `closing` needs.
     if work.len() < corners.len() / 3 * 32 + points * 16 {
         return b'?';
     }
-    if within(corners, points) {
-        if closing::closed_surface(corners, points, work) {
-            return b'c';
-        }
-        return found(closing::finding(corners, points, work));
+    if !within(corners, points) {
+        return b'?';
     }
-    b'?'
+    if closing::closed_surface(corners, points, work) {
+        return b'c';
+    }
+    found(closing::finding(corners, points, work))
 }
 
-fn digit(c: u8) -> u32 {
-    if c < 48 {
-        return 99;
+fn digit(c: u8) -> Option<u32> {
+    if c.is_ascii_digit() {
+        return Some(u32::from(c - b'0'));
     }
-    (c - 48) as u32
+    None
 }
 
 // The corners that a text spells, and how many.
 fn spell(text: &[u8], corners: &mut [u32]) -> usize
     ensures { IsPrefixLen result corners.new }
 {
-    let mut n: usize = 0;
-    let mut i: usize = 0;
-    while i < text.len() {
-        let d = digit(text[i]);
-        i += 1;
-        if d < 10 {
+    let mut n = 0;
+    for c in text {
+        if let Some(d) = digit(*c) {
             if n < corners.len() {
                 corners[n] = d;
                 n += 1;

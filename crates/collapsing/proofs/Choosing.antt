@@ -1,13 +1,11 @@
 -- What `note_candidates` leaves, from the contracts of the functions that it calls: triangles marked, sides measured, numbers picked and sorted are the candidates of a round.
-use Prim.Native.Nat.{ℕ, zero, suc, ◌+◌, ◌*◌, ◌<◌, ◌≤◌, ◌^◌}
+use Prim.Native.Nat.{ℕ, zero, suc, ◌+◌, ◌*◌, ◌<◌}
 use native.Mathlib.Omega.{arith}
 use mathlib.Core.Path.{◌≡◌, sym, ap, ◌∙◌, subst}
 use mathlib.Core.Logic.{inl, inr}
 use mathlib.Core.Bool.{Bool, true, false, cond}
 use mathlib.Core.List.{List, ◌∷◌, map}
-use lib.Dec.{T, le→leb}
 use lib.ListN.{length}
-use lib.IntN.{pos}
 use lib.Ieee as Ieee
 use lib.Ieee.{Float, binary64, in_float}
 use Rattle.float.specs.Point.{times}
@@ -43,11 +41,6 @@ chosen-low f o (suc d) i l = go (f o) i l (chosen-low f (suc o) d)
     go true zero l ih = omega arith
     go true (suc i) l ih = let m = ih i (omega arith) in omega arith
     go false i l ih = let m = ih i l in omega arith
-
--- so few sides have their number as an f64
-pub count_floats : (n : ℕ) → n ≤ 98304 → T (in_float binary64 (pos n))
-unfolding in_float
-count_floats n l = le→leb n (2 ^ 53) (omega arith)
 
 module _ (ps qs : List Float) (ns c ls : List ℕ) (p r : ℕ) (w : List ℕ) (h : Collapsible ps c ls p w) (n : Noted c ls p w r) where
   pub choose_scored : Scores.Lists ps c ls
@@ -102,24 +95,6 @@ module _ (ps qs : List Float) (ns c ls : List ℕ) (p r : ℕ) (w : List ℕ) (h
             most = omega arith;
             room = omega arith;
             places = λ i l. let z = place-low i l in let u = stays (sides_from c p + i) (omega arith) in omega arith;
-          }
-
-      pub choose-marked : Marked c w₂ (p * 3 + length c) (weak_from c p) (items_from c p)
-      choose-marked = record { twins_in = omega arith; marks_in = omega arith; twins-low = λ k l. (twins₂ k l).low }
-
-      -- whatever was picked can be sorted
-      pub choose_sortable : (test : ℕ → Bool) (w₃ : List ℕ) (x : ℕ) → length w₃ ≡ length w₂ → Picked test w₂ w₃ r (items_from c p) x → SortAsks w₃ (keys_from c p) r (items_from c p) (spare_from c p) x
-      choose_sortable test w₃ x e₃ k =
-          let room = h.room in
-          let half = n.half in
-          let few = k.few in
-          record {
-            keyed = omega arith;
-            items_in = omega arith;
-            spare_in = omega arith;
-            apart = inl (omega arith);
-            keys_items = inl (omega arith);
-            keys_spare = inl (omega arith);
           }
 
       module _ (w₃ : List ℕ) (x : ℕ) (e₃ : length w₃ ≡ length w₂)

@@ -8,7 +8,6 @@ use lib.Seq.{ext_get_or}
 use Rattle.surface.specs.Triangle.{triangles}
 use Rattle.surface.specs.Closed.{Closed}
 use Rattle.halfedges.specs.Place.{at}
-use Rattle.halfedges.specs.Free.{Free}
 use Rattle.halfedges.proofs.Free.{free_wider, free_more}
 use Rattle.sides.specs.Side.{Twin, sides-from}
 use Rattle.sides.specs.Whole.{Listed}
@@ -42,9 +41,6 @@ carried_at c ls p carried w v w' room h e =
     }
 
 -- ---- note_lists
-
-pub carried_room : (c : List ℕ) (p n n₁ n₂ n₃ : ℕ) → weak_from c p ≤ n → n₁ ≡ n → n₂ ≡ n₁ → n₃ ≡ n₂ → carried_from c p + p * 8 ≤ n₃
-carried_room c p n n₁ n₂ n₃ room e₁ e₂ e₃ = omega arith
 
 module _ (c ls : List ℕ) (p : ℕ) (w : List ℕ) (lists : Lists c p) (closed : Closed (triangles c)) (room : weak_from c p ≤ length w) (w₁ : List ℕ) (r : ℕ) (e₁ : length w₁ ≡ length w) (l : Listed c p w w₁ r) (w₂ : List ℕ) (e₂ : length w₂ ≡ length w₁) (v : Valued c p w₁ w₂) (w₃ : List ℕ) (e₃ : length w₃ ≡ length w₂) (h : ChainedAt c p (chains_from c p) w₂ w₃) where
   -- the words of the twins and the sides

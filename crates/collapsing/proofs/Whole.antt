@@ -1,18 +1,17 @@
 -- The stages of the collapse pass put together.
-use Prim.Native.Nat.{ℕ, zero, suc, ◌+◌, ◌*◌, ◌/◌, ◌%◌, ◌<◌, ◌≤◌}
+use Prim.Native.Nat.{ℕ, zero, suc, ◌+◌, ◌*◌, ◌<◌, ◌≤◌}
 use native.Mathlib.Omega.{arith}
 use mathlib.Core.Path.{◌≡◌, refl, sym, ap, ap₂, ◌∙◌, subst}
-use mathlib.Core.Bool.{Bool, true, false, not}
+use mathlib.Core.Bool.{true, false, not}
 use mathlib.Core.List.{List, [], ◌∷◌, ◌++◌, map, map-append}
 use lib.Dec.{eqb}
 use lib.ListN.{length, get_or, length-map}
 use lib.Ieee.{Float}
-use Rattle.surface.specs.Triangle.{Tri, tri, triangles}
+use Rattle.surface.specs.Triangle.{Tri, triangles}
 use Rattle.surface.specs.Edit.{place}
 use Rattle.surface.proofs.Flat.{place-triangles}
 use Rattle.halfedges.specs.Place.{at}
 use Rattle.sides.specs.Side.{Twin, sorted}
-use Rattle.sides.specs.Order.{Upward}
 use Rattle.sides.proofs.Order.{among-at}
 use Rattle.sorting.specs.Stable.{part}
 use Rattle.sorting.proofs.Parts.{part_at, part_length, part-more}
@@ -22,7 +21,6 @@ use Rattle.surface.specs.Renumber.{renumber, renumbered}
 use Rattle.rounds.specs.Choices.{Side, collapse_start}
 use Rattle.renumber.specs.Dropped.{becomes}
 use Rattle.oracle.specs.Scene.{Scene}
-use Rattle.oracle.specs.Candidates.{candidates}
 use Rattle.oracle.specs.Slivers.{pass}
 use Rattle.scores.specs.Measures.{pair_of, side_at, Filled}
 use Rattle.slivers.specs.Stand.{Stands}
@@ -92,9 +90,6 @@ in_order c f v w sides items (suc n) room h =
     ∙ sym (ap (map f) (part-more v items n (omega arith)) ∙ map-append f (part v items n) (at v (items + n) ∷ []))
 
 -- ---- note_collapses: w as handed, w₁ with the marks, w₂ with the candidates, w₃ as the pass begins, w₄ as it ends
-
-pub collapsible_kept : {ps : List Float} {c ls : List ℕ} {p : ℕ} {w : List ℕ} (w' : List ℕ) → length w' ≡ length w → Collapsible ps c ls p w → Collapsible ps c ls p w'
-collapsible_kept w' e h = record { lists = h.lists; coords = h.coords; labelled = h.labelled; closed = h.closed; room = omega (arith, h.room) }
 
 module _ (ps : List Float) (c ls : List ℕ) (p : ℕ) (w : List ℕ) (h : Collapsible ps c ls p w) (s : Scene) (w₁ w₂ w₃ : List ℕ) (r n : ℕ) (e₁ : length w₁ ≡ length w) (e₂ : length w₂ ≡ length w₁) (e₃ : length w₃ ≡ length w₂)
     (noted : Noted c ls p w₁ r) (chosen : Chosen s c ls p r w₁ w₂ n) (clean : Clean p (length ls) (touched_from c p) w₂ w₃) where

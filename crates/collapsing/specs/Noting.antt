@@ -1,5 +1,5 @@
 -- What the stages of the collapse pass are handed and leave. Definitions only.
-use Rattle.std.specs.Prelude.{ℕ, ◌+◌, ◌*◌, ◌/◌, ◌<◌, ◌≤◌, ◌≡◌, true, List, map, length, Float}
+use Rattle.std.specs.Prelude.{ℕ, ◌+◌, ◌*◌, ◌<◌, ◌≤◌, ◌≡◌, true, List, map, length, Float}
 use Rattle.surface.specs.Triangle.{triangles}
 use Rattle.surface.specs.Closed.{one, Closed}
 use Rattle.halfedges.specs.Place.{at, uses}

@@ -8,14 +8,66 @@ ghost use Rattle.chains.specs.LabelMarks.{Labelled};
 ghost use Rattle.chains.specs.Marks.{Lists};
 ghost use Rattle.oracle.specs.Scene.{scene};
 ghost use Rattle.scores.specs.Measures.{Filled};
-ghost use Rattle.collapsing.specs.Areas.{weak_from};
+ghost use Rattle.slivers.specs.Ready.{scene_of};
+ghost use Rattle.collapsing.specs.Areas.{weak_from, areas_of};
 ghost use Rattle.collapsing.specs.Noting.{CarriedAt, Collapsible, Noted, ListsNoted, Chosen, Clean, Collapsed};
 
+use field::Terms;
 use marks::{chain_at, clear_from, mark_labels, mark_sides};
 use scores::{mark_weak, measure_sides, pick_candidates};
 use sides::{count_valences, list_sides};
-use slivers::collapse_candidates;
+use slivers::Pass;
 use sorting::sort;
+
+// Where the areas of the work words begin, in the order in which they are made.
+#[derive(Clone, Copy, Debug, PartialEq, Eq)]
+pub struct Areas {
+    pub twins: usize,
+    pub sides: usize,
+    pub chains: usize,
+    pub carried: usize,
+    pub stamps: usize,
+    pub lones: usize,
+    pub weak: usize,
+    pub keys: usize,
+    pub items: usize,
+    pub spare: usize,
+    pub touched: usize,
+}
+
+impl Areas {
+    // Those of a list of corners and of so many points.
+    pub fn of(corners: &[u32], heads: usize) -> Self
+        requires { Lists corners.now heads }
+        ensures { result ≡ areas_of corners.now heads }
+    {
+        let places = corners.len();
+        let twins = heads * 3 + places;
+        let sides = heads * 3 + places * 3;
+        let chains = sides + places / 2;
+        let carried = chains + heads + places;
+        let stamps = carried + heads * 8;
+        let lones = stamps + heads;
+        let weak = lones + places;
+        let keys = weak + places / 3;
+        let items = keys + places / 2 * 2;
+        let spare = items + places / 2;
+        let touched = spare + places / 2;
+        Areas {
+            twins,
+            sides,
+            chains,
+            carried,
+            stamps,
+            lones,
+            weak,
+            keys,
+            items,
+            spare,
+            touched,
+        }
+    }
+}
 
 // The marks of the labels in the words from `carried` on.
 fn mark_labels_at(corners: &[u32], labels: &[u8], heads: usize, carried: usize, work: &mut [u32])
@@ -35,46 +87,44 @@ fn note_lists(corners: &[u32], labels: &[u8], heads: usize, work: &mut [u32]) ->
     requires heads_in_bounds { weak_from corners.now heads ≤ length work.old }
     ensures { ListsNoted corners.now labels.now heads work.old work.new result }
 {
-    let places = corners.len();
-    let chains = heads * 3 + places * 3 + places / 2;
-    let carried = chains + heads + places;
-    let stamps = carried + heads * 8;
+    let at = Areas::of(corners, heads);
     let count = list_sides(corners, heads, work);
     count_valences(corners, heads, work);
-    chain_at(corners, heads, chains, work);
-    mark_labels_at(corners, labels, heads, carried, work);
-    mark_sides(corners, heads, chains, stamps, stamps + heads, work);
+    chain_at(corners, heads, at.chains, work);
+    mark_labels_at(corners, labels, heads, at.carried, work);
+    mark_sides(corners, heads, at.chains, at.stamps, at.lones, work);
     count
 }
 
 // The candidates: short sides of weak triangles, in the order of their lengths. Returns how many.
-fn note_candidates(
-    points: &[f64],
-    corners: &[u32],
-    labels: &[u8],
-    coefficients: &[f64],
-    powers: &[u32],
-    heads: usize,
-    count: usize,
-    work: &mut [u32],
-) -> usize
-    requires collapsible { Collapsible points.now corners.now labels.now heads work.old }
-    requires noted { Noted corners.now labels.now heads work.old count }
-    ensures { Chosen (scene points.now coefficients.now powers.now) corners.now labels.now heads count work.old work.new result }
+fn note_candidates(pass: &Pass, count: usize, work: &mut [u32]) -> usize
+    requires collapsible { Collapsible pass.now.points.now pass.now.corners.now pass.now.labels.now pass.now.heads work.old }
+    requires noted { Noted pass.now.corners.now pass.now.labels.now pass.now.heads work.old count }
+    ensures { Chosen (scene_of pass.now) pass.now.corners.now pass.now.labels.now pass.now.heads count work.old work.new result }
 {
-    let places = corners.len();
-    let twins = heads * 3 + places;
-    let sides = heads * 3 + places * 3;
-    let weak = sides + places / 2 + heads + places + heads * 8 + heads + places;
-    let keys = weak + places / 3;
-    let items = keys + places / 2 * 2;
-    mark_weak(points, corners, labels, coefficients, powers, weak, work);
-    let sum = measure_sides(points, corners, sides, count, keys, work);
+    let at = Areas::of(pass.corners, pass.heads);
+    mark_weak(
+        pass.points,
+        pass.corners,
+        pass.labels,
+        &pass.terms,
+        at.weak,
+        work,
+    );
+    let sum = measure_sides(pass.points, pass.corners, at.sides, count, at.keys, work);
     let limit = 0.36 * (sum / (count as f64));
     let n = pick_candidates(
-        points, corners, twins, sides, count, weak, items, limit, work,
+        pass.points,
+        pass.corners,
+        at.twins,
+        at.sides,
+        count,
+        at.weak,
+        at.items,
+        limit,
+        work,
     );
-    sort(work, keys, count, items, items + places / 2, n);
+    sort(work, at.keys, count, at.items, at.spare, n);
     n
 }
 
@@ -83,10 +133,8 @@ fn number_from(from: usize, count: usize, work: &mut [u32])
     requires { (from + count ≤ length work.old) × (count ≤ 32768) }
     ensures { Filled (λ (i : ℕ). i) from work.old work.new count }
 {
-    let mut v: usize = 0;
-    while v < count {
+    for v in 0..count {
         work[from + v] = v as u32;
-        v += 1;
     }
 }
 
@@ -105,47 +153,27 @@ pub fn note_collapses(
     points: &[f64],
     corners: &[u32],
     labels: &[u8],
-    coefficients: &[f64],
-    powers: &[u32],
+    terms: &Terms,
     heads: usize,
     work: &mut [u32],
 )
     requires { Collapsible points.now corners.now labels.now heads work.old }
-    ensures { Collapsed (scene points.now coefficients.now powers.now) corners.now labels.now heads work.old work.new }
+    ensures { Collapsed (scene points.now terms.now.coefficients.now terms.now.powers.now) corners.now labels.now heads work.old work.new }
 {
-    let places = corners.len();
-    let sides = heads * 3 + places * 3;
-    let chains = sides + places / 2;
-    let carried = chains + heads + places;
-    let lones = carried + heads * 8 + heads;
-    let items = lones + places + places / 3 + places / 2 * 2;
-    let touched = items + places / 2 + places / 2;
+    let at = Areas::of(corners, heads);
+    let pass = Pass {
+        points,
+        corners,
+        labels,
+        terms: *terms,
+        heads,
+        chains: at.chains,
+        carried: at.carried,
+        marks: at.lones,
+        touched: at.touched,
+    };
     let count = note_lists(corners, labels, heads, work);
-    let n = note_candidates(
-        points,
-        corners,
-        labels,
-        coefficients,
-        powers,
-        heads,
-        count,
-        work,
-    );
-    begin_collapses(heads, labels.len(), touched, work);
-    collapse_candidates(
-        points,
-        corners,
-        labels,
-        coefficients,
-        powers,
-        heads,
-        chains,
-        carried,
-        lones,
-        sides,
-        items,
-        n,
-        touched,
-        work,
-    );
+    let n = note_candidates(&pass, count, work);
+    begin_collapses(heads, labels.len(), at.touched, work);
+    pass.collapse_candidates(at.sides, at.items, n, work);
 }

@@ -5,30 +5,27 @@
 use std::io;
 use std::io::Write;
 use std::rt::Env;
-use writing::Written;
 
-// The edition that the argument names; 0, which is none, for any other argument and for none.
+// The number of the edition that the argument names; 0, which no edition has, for any other argument and for
+// none. (No Option: `convert` takes the number that C would hand it, and refuses 0.)
 fn edition(rt: &impl Env) -> u32 {
     let mut word = [0u8; 2];
     let Ok(1) = rt.arg(1, &mut word) else {
         return 0;
     };
-    let first = word[0];
-    if first == b'1' {
-        return 1;
+    match word[0] {
+        b'1' => 1,
+        b'2' => 2,
+        _ => 0,
     }
-    if first == b'2' {
-        return 2;
-    }
-    0
 }
 
 // The sheet in the edition, or the number and a line feed. No sheet is longer than the list.
 fn convert(rt: &impl Print, text: &[u8], edition: u32) -> io::Result<()> {
     let mut written = [0u8; 12981];
     match converting::convert(text, edition, &mut written) {
-        Written::Is(n) => io::writer(rt).write_all(&written[..n]),
-        Written::Refused(why) => println!(rt; "{why}"),
+        Ok(n) => io::writer(rt).write_all(&written[..n]),
+        Err(why) => println!(rt; "{}", why.number()),
     }
 }
 

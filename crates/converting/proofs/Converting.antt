@@ -18,8 +18,9 @@ use Rattle.sheet.proofs.Stores.{length_coordinates}
 use Rattle.sheet.proofs.Tests.{both-mean, le_means, fails}
 use Rattle.writing.specs.Lists.{sheet_front}
 use Rattle.writing.specs.Written.{Writing, written, refused, Leaves}
-use Rattle.writing.specs.declared.Written as declared
-use Rattle.writing.specs.declared.Written.TheVariants.{Refused}
+use Rattle.std.specs.Prelude.{Result, Err}
+use Rattle.sheet.specs.declared.Refusal.{Refusal}
+use Rattle.sheet.specs.declared.Refusal.TheVariants.{NoSheet, Inexact}
 use Rattle.writing.proofs.Settling.{refused-leaves}
 use Rattle.writing.proofs.Threes.{every-at, coordinates_near, list-points, list-triangles}
 use Rattle.converting.specs.Converting.{unit_of, sheet_conversion, conversion}
@@ -28,15 +29,15 @@ use Rattle.converting.specs.Stages.{TurnedFirst}
 -- ---- refusals
 
 module _ (asked : ℕ) (list list' : List ℕ) (cleared : list' ≡ replicate (length list) 0) where
-  pub leaves_no_edition : (c : Contents) → (IsEdition asked → ⊥) → Leaves (conversion c asked) list list' (Refused 16)
-  leaves_no_edition c n = refused-leaves (conversion c asked) 16 list list' (says c (fails (both-mean (le_means 1 asked) (le_means asked 2)) n)) cleared
+  pub leaves_no_edition : (c : Contents) → (IsEdition asked → ⊥) → Leaves (conversion c asked) list list' (Err NoSheet)
+  leaves_no_edition c n = refused-leaves (conversion c asked) NoSheet list list' (says c (fails (both-mean (le_means 1 asked) (le_means asked 2)) n)) cleared
     where
-      says : (c : Contents) → is_edition? asked ≡ false → conversion c asked ≡ refused 16
+      says : (c : Contents) → is_edition? asked ≡ false → conversion c asked ≡ refused NoSheet
       says Contents.nothing e = refl
-      says (Contents.sheet number s) e = ap (λ (t : Bool). cond t (sheet_conversion number asked s) (refused 16)) e
+      says (Contents.sheet number s) e = ap (λ (t : Bool). cond t (sheet_conversion number asked s) (refused NoSheet)) e
 
-  pub leaves_nothing : (c : Contents) → c ≡ Contents.nothing → Leaves (conversion c asked) list list' (Refused 16)
-  leaves_nothing c e = refused-leaves (conversion c asked) 16 list list' (ap (λ (d : Contents). conversion d asked) e) cleared
+  pub leaves_nothing : (c : Contents) → c ≡ Contents.nothing → Leaves (conversion c asked) list list' (Err NoSheet)
+  leaves_nothing c e = refused-leaves (conversion c asked) NoSheet list list' (ap (λ (d : Contents). conversion d asked) e) cleared
 
 -- ---- point by point, and coordinate by coordinate
 
@@ -64,9 +65,6 @@ module _ (input : List ℕ) (from asked n m : ℕ) (z z' : List ℤ) (c c' l l' 
   found-said : Says input from s
   unfolding s
   found-said = contents-laws.says input from f.sheet f.said
-
-  pub known : IsEdition from
-  known = found-said.known
 
   long : length (coordinates_of s.points) ≡ n * 3
   unfolding s
@@ -98,12 +96,12 @@ module _ (input : List ℕ) (from asked n m : ℕ) (z z' : List ℤ) (c c' l l' 
     unfolding convertible?
     exact = t.same ∙ ap (every (fits? (unit_of from) (unit_of asked))) taken ∙ coordinates_fit (unit_of from) (unit_of asked) s.points
 
-    converts : IsEdition asked → cond r (written (text (edition asked) (sheet_front n m w c' l'))) (refused 38) ≡ conversion (contents input) asked
+    converts : IsEdition asked → cond r (written (text (edition asked) (sheet_front n m w c' l'))) (refused Inexact) ≡ conversion (contents input) asked
     unfolding s
     converts k =
-        (λ i. cond (exact i) (written (text (edition asked) (front i))) (refused 38))
-        ∙ sym (ap (λ (b : Bool). cond b (sheet_conversion from asked s) (refused 16)) ((both-mean (le_means 1 asked) (le_means asked 2)).1 k))
+        (λ i. cond (exact i) (written (text (edition asked) (front i))) (refused Inexact))
+        ∙ sym (ap (λ (b : Bool). cond b (sheet_conversion from asked s) (refused NoSheet)) ((both-mean (le_means 1 asked) (le_means asked 2)).1 k))
         ∙ sym (ap (λ (d : Contents). conversion d asked) f.said)
 
-    pub leaves-conversion : IsEdition asked → (list list' : List ℕ) (answer : declared.Written) → Leaves (cond r (written (text (edition asked) (sheet_front n m w c' l'))) (refused 38)) list list' answer → Leaves (conversion (contents input) asked) list list' answer
+    pub leaves-conversion : IsEdition asked → (list list' : List ℕ) (answer : Result ℕ Refusal) → Leaves (cond r (written (text (edition asked) (sheet_front n m w c' l'))) (refused Inexact)) list list' answer → Leaves (conversion (contents input) asked) list list' answer
     leaves-conversion k list list' answer h = subst (λ (x : Writing). Leaves x list list' answer) (converts k) h

@@ -16,7 +16,8 @@ use Rattle.sheet.proofs.InUnit.{in_range, same_ends, unit-some, unit-small, most
 use Rattle.sheet.proofs.Tests.{both-mean, le_means, fails}
 use Rattle.reading.specs.Given.{read, zero_float, holds?, reading_of}
 use Rattle.reading.specs.Given as Given
-use Rattle.reading.specs.declared.Answer.TheVariants as declared
+use Rattle.std.specs.Prelude.{Ok}
+use Rattle.sheet.specs.declared.Refusal.TheVariants.{NoSheet, NoRoom, Inexact}
 use Rattle.writing.specs.Written.{written, refused}
 use Rattle.writing.proofs.Laws.{only-passed}
 use Rattle.converting.specs.Converting.{unit_of, sheet_conversion, conversion}
@@ -40,11 +41,11 @@ module _ (input : List ℕ) (number asked : ℕ) (s : Sheet) (said : contents in
   v = unit_of asked
 
   module _ (known : IsEdition asked) where
-    of_sheet : (b : Bool) → convertible? u v s ≡ b → conversion (contents input) asked ≡ cond b (written (text (edition asked) (sheet_in_unit u v s))) (refused 38)
+    of_sheet : (b : Bool) → convertible? u v s ≡ b → conversion (contents input) asked ≡ cond b (written (text (edition asked) (sheet_in_unit u v s))) (refused Inexact)
     of_sheet b e =
         ap (λ (c : Contents). conversion c asked) said
-        ∙ ap (λ (t : Bool). cond t (sheet_conversion number asked s) (refused 16)) ((both-mean (le_means 1 asked) (le_means asked 2)).1 known)
-        ∙ ap (λ (t : Bool). cond t (written (text (edition asked) (sheet_in_unit u v s))) (refused 38)) e
+        ∙ ap (λ (t : Bool). cond t (sheet_conversion number asked s) (refused NoSheet)) ((both-mean (le_means 1 asked) (le_means asked 2)).1 known)
+        ∙ ap (λ (t : Bool). cond t (written (text (edition asked) (sheet_in_unit u v s))) (refused Inexact)) e
 
     -- the text of the sheet that it converts to
     converts_to : (t : Sheet) → Converted u v s t → conversion (contents input) asked ≡ written (text (edition asked) t)
@@ -74,8 +75,8 @@ module _ (input converted : List ℕ) (number asked : ℕ) (s : Sheet) (said : c
   came : Came input converted number asked s t
   came =
       let h = contents-laws.says input number s said in
-      let outer = only-passed (is_edition? asked) (sheet_conversion number asked s) 16 converted (ap (λ (c : Contents). conversion c asked) (sym said) ∙ e) in
-      let inner = only-passed (convertible? (unit_of number) (unit_of asked) s) (written (text (edition asked) t)) 38 converted outer.1 in
+      let outer = only-passed (is_edition? asked) (sheet_conversion number asked s) NoSheet converted (ap (λ (c : Contents). conversion c asked) (sym said) ∙ e) in
+      let inner = only-passed (convertible? (unit_of number) (unit_of asked) s) (written (text (edition asked) t)) Inexact converted outer.1 in
       let same_text = inner.1 in
       let known = (both-mean (le_means 1 asked) (le_means asked 2)).0 outer.0 in
       let some = unit-some number h.known in
@@ -100,12 +101,12 @@ module _ (input converted : List ℕ) (number asked : ℕ) (s : Sheet) (said : c
 
   module _ (values corners labels : ℕ) where
     -- the same is left, where the lists hold it and where they do not
-    alike : (holds : Bool) → SameReading values corners labels (cond holds (read asked t) (Given.refused 35)) (cond holds (read number s) (Given.refused 35))
+    alike : (holds : Bool) → SameReading values corners labels (cond holds (read asked t) (Given.refused NoRoom)) (cond holds (read number s) (Given.refused NoRoom))
     alike true =
         let same = conversion-laws.keeps (edition number) (edition asked) (exact number came.from.known) (exact asked came.to.known) s t came.from.in_range came.to.in_range came.same in
         let places = sym same.points in
         record {
-          answers = λ i. declared.Sheet (long i) (length s.triangles);
+          answers = λ i. Ok (record { points = long i; triangles = length s.triangles });
           points = λ i. places i ++ replicate (values - long i * 3) zero_float;
           corner-list = refl;
           label-list = refl;

@@ -9,33 +9,23 @@ use lib.IntN.{ℤ, pos, negsuc, nat_abs}
 use lib.ListN.{length, get_or, take, drop, set, length-map}
 use lib.Seq.{get_or-take, get_or_at, drop-cons, length-take-le}
 use lib.Signed.{mag, non_neg}
-use mir.Syntax.{w32}
-use mir.Val.{to_z, of_z}
 use Rattle.surface.specs.Check.{every}
 use Rattle.surface.proofs.All.{all_and, all_done}
 use Rattle.sheet.specs.Text.{minus}
 use Rattle.sheet.specs.Conversion.{fits?, in_unit}
-use Rattle.sheet.proofs.Signs.{minus-small, back}
 use Rattle.sheet.proofs.Stores.{map_more}
 use Rattle.converting.specs.Converting.{unit_of}
 use Rattle.converting.specs.Stages.{signed_as, TurnedFirst}
 
 -- ---- a number of a size with a sign
 
-module _ (z : ℤ) (size : ℕ) (small : size < 2 ^ 31) where
-  pub signed_below : (r : ℤ) → r ≡ minus size → not (non_neg z) ≡ true → to_z w32 (of_z w32 r) ≡ signed_as z size
-  signed_below r e s = back r (minus size) e (minus-small size small).sfits ∙ sym (sign z s)
-    where
-      sign : (z : ℤ) → not (non_neg z) ≡ true → signed_as z size ≡ minus size
-      sign (pos n) t = let bad : ◌≡◌ {A = ℕ} 0 1 = cc in absurd (omega arith)
-      sign (negsuc n) t = refl
+pub signed_below : (z : ℤ) (size : ℕ) → not (non_neg z) ≡ true → minus size ≡ signed_as z size
+signed_below (pos n) size t = let bad : ◌≡◌ {A = ℕ} 0 1 = cc in absurd (omega arith)
+signed_below (negsuc n) size t = refl
 
-  pub signed_above : (r : ℤ) → r ≡ pos size → not (non_neg z) ≡ false → to_z w32 (of_z w32 r) ≡ signed_as z size
-  signed_above r e s = back r (pos size) e small ∙ sym (sign z s)
-    where
-      sign : (z : ℤ) → not (non_neg z) ≡ false → signed_as z size ≡ pos size
-      sign (pos n) t = refl
-      sign (negsuc n) t = let bad : ◌≡◌ {A = ℕ} 0 1 = cc in absurd (omega arith)
+pub signed_above : (z : ℤ) (size : ℕ) → not (non_neg z) ≡ false → pos size ≡ signed_as z size
+signed_above (pos n) size t = refl
+signed_above (negsuc n) size t = let bad : ◌≡◌ {A = ℕ} 0 1 = cc in absurd (omega arith)
 
 pub signed-unit : (u v : ℕ) (z : ℤ) → signed_as z (nat_abs z * v / u) ≡ in_unit u v z
 signed-unit u v (pos a) = refl

@@ -4,6 +4,7 @@ use Rattle.sheet.specs.Sheet.{Point, Sheet, Every}
 use Rattle.sheet.specs.Contents as Contents
 use Rattle.sheet.specs.Contents.{contents}
 use Rattle.reading.specs.Given.{Reading, reading_of, sheet_answer, points_after, corners_after, labels_after}
+use Rattle.sheet.specs.declared.Refusal.TheVariants.{Inexact}
 use Rattle.writing.specs.Written.{written, refused}
 use Rattle.converting.specs.Converting.{conversion}
 
@@ -29,6 +30,6 @@ pub record ConvertingLaws : Type 0 where
   pub as_it_is : (input : List ℕ) (number : ℕ) (s : Sheet) → contents input ≡ Contents.sheet number s → conversion (contents input) number ≡ written input
   -- every sheet of the first edition goes to the second
   pub finer : (input : List ℕ) (s : Sheet) → contents input ≡ Contents.sheet 1 s → (converted : List ℕ) × (conversion (contents input) 2 ≡ written converted)
-  -- one of the second goes to the first where its coordinates are multiples of 64, and else is refused with 38
+  -- one of the second goes to the first where its coordinates are multiples of 64, and else is refused as inexact
   pub coarser : (input : List ℕ) (s : Sheet) → contents input ≡ Contents.sheet 2 s → Every Multiples s.points → (converted : List ℕ) × (conversion (contents input) 1 ≡ written converted)
-  pub between : (input : List ℕ) (s : Sheet) → contents input ≡ Contents.sheet 2 s → (Every Multiples s.points → ⊥) → conversion (contents input) 1 ≡ refused 38
+  pub between : (input : List ℕ) (s : Sheet) → contents input ≡ Contents.sheet 2 s → (Every Multiples s.points → ⊥) → conversion (contents input) 1 ≡ refused Inexact

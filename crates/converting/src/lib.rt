@@ -3,77 +3,66 @@
 #![tactic(auto)]
 
 ghost use Rattle.std.specs.Prelude.{◌≡◌, ℕ, ◌≤◌, ◌<◌, ◌^◌, length, get_or, pos, nat_abs};
-ghost use Rattle.sheet.specs.Edition.{edition, IsEdition};
+ghost use Rattle.sheet.specs.Edition.{edition_number, rules_of};
 ghost use Rattle.sheet.specs.Contents.{contents};
 ghost use Rattle.writing.specs.Written.{Leaves};
 ghost use Rattle.converting.specs.Converting.{conversion};
 ghost use Rattle.converting.specs.Stages.{signed_as, Turned, TurnedFirst};
 
-use writing::Written;
+use sheet::{Edition, Refusal};
 
 // A number of that size, with the sign of z.
 fn signed(z: i32, size: u64) -> i32
     requires { size < 2 ^ 31 }
     ensures { result ≡ signed_as z size }
 {
-    if writing::below_zero(z) {
-        return sheet::below(size);
+    if z < 0 {
+        return -(size as i32);
     }
-    sheet::above(size)
+    size as i32
 }
 
 // The coordinate z in the unit of `asked`, stored at k, and whether it is the same number. It is cut
 // where that unit does not have it.
-fn turn(z: i32, from: u32, asked: u32, k: usize, coordinates: &mut [i32]) -> bool
-    requires { IsEdition from × IsEdition asked × (nat_abs z ≤ (edition from).most) × (k < length coordinates.old) }
-    ensures { Turned from asked z k coordinates.old coordinates.new result }
+fn turn(z: i32, from: Edition, asked: Edition, k: usize, coordinates: &mut [i32]) -> bool
+    requires { (nat_abs z ≤ (rules_of from).most) × (k < length coordinates.old) }
+    ensures { Turned (edition_number from) (edition_number asked) z k coordinates.old coordinates.new result }
 {
-    let unit = sheet::unit(from) as u64;
-    let scaled = (writing::size(z) as u64) * (sheet::unit(asked) as u64);
-    let w = signed(z, scaled / unit);
-    coordinates[k] = w;
+    let unit = u64::from(from.unit());
+    let scaled = u64::from(z.unsigned_abs()) * u64::from(asked.unit());
+    coordinates[k] = signed(z, scaled / unit);
     scaled % unit == 0
 }
 
 // The first `count` coordinates in the unit of `asked`, and whether all are the same numbers.
-fn turn_all(from: u32, asked: u32, count: usize, coordinates: &mut [i32]) -> bool
-    requires { IsEdition from × IsEdition asked × (count ≤ length coordinates.old) × ((k : ℕ) → k < count → nat_abs (get_or coordinates.old k (pos 0)) ≤ (edition from).most) }
-    ensures { TurnedFirst from asked count coordinates.old coordinates.new result }
+fn turn_all(from: Edition, asked: Edition, count: usize, coordinates: &mut [i32]) -> bool
+    requires { (count ≤ length coordinates.old) × ((k : ℕ) → k < count → nat_abs (get_or coordinates.old k (pos 0)) ≤ (rules_of from).most) }
+    ensures { TurnedFirst (edition_number from) (edition_number asked) count coordinates.old coordinates.new result }
 {
     let mut same = true;
-    let mut k = 0;
-    while k < count {
-        let z = coordinates[k];
-        let whole = turn(z, from, asked, k, coordinates);
+    for k in 0..count {
+        let whole = turn(coordinates[k], from, asked, k, coordinates);
         same = whole & same;
-        k += 1;
     }
     same
 }
 
 // Writes the sheet that a text is in the edition asked for. Zeros follow it, and a refusal leaves zeros.
-pub fn convert(text: &[u8], asked: u32, written: &mut [u8]) -> Written
+pub fn convert(text: &[u8], asked: u32, written: &mut [u8]) -> Result<usize, Refusal>
     ensures { Leaves (conversion (contents text.now) asked) written.old written.new result }
 {
-    sheet::clear(written);
-    if asked < 1 {
-        return Written::Refused(16);
-    }
-    if asked > 2 {
-        return Written::Refused(16);
-    }
+    written.fill(0);
+    let edition = Edition::try_from(asked)?;
+    // Room for the largest sheet. (Arrays of fixed length: there is no heap.)
     let mut coordinates = [0i32; 384];
     let mut corners = [0u32; 768];
     let mut labels = [0u8; 256];
-    let sheet::Found::Is(from, n, m) = sheet::read_whole(
-        text,
-        &mut coordinates,
-        &mut corners,
-        &mut labels,
-    ) else {
-        return Written::Refused(16);
+    let Some(found) = sheet::read_whole(text, &mut coordinates, &mut corners, &mut labels) else {
+        return Err(Refusal::NoSheet);
     };
-    let same = turn_all(from, asked, n * 3, &mut coordinates);
-    let count = writing::text(asked, n, m, &coordinates, &corners, &labels, written);
+    let n = found.counts.points;
+    let m = found.counts.triangles;
+    let same = turn_all(found.edition, edition, n * 3, &mut coordinates);
+    let count = writing::text(edition, n, m, &coordinates, &corners, &labels, written);
     writing::settled(same, count, written)
 }

@@ -92,7 +92,6 @@ onto-finite t level v h = go (is_finite level) refl (Ieee.le (magnitude (less v 
     go false q d = h
 
 map-finite : (g : Float → Float) → ((x : Float) → is_finite x ≡ true → is_finite (g x) ≡ true) → (xs : List Float) → every is_finite xs ≡ true → (i : ℕ) → i < length xs → is_finite (get_or (map g xs) i nan) ≡ true
-unfolding every
 map-finite g k [] h i l = absurd (omega arith)
 map-finite g k (x ∷ xs) h zero l = k x (both (is_finite x) (every is_finite xs) h).0
 map-finite g k (x ∷ xs) h (suc i) l = map-finite g k xs (both (is_finite x) (every is_finite xs) h).1 i (omega arith)

@@ -20,9 +20,11 @@ use Rattle.lattice.proofs.Stores as Stores
 use Rattle.lattice.proofs.Stores.{three_sets, sets_append}
 use Rattle.solve.specs.declared.Solved.{Solved}
 use Rattle.cuts.specs.Edges.{is_cut, all_cut?, fields_taken, cut_numbers}
-use Rattle.cuts.specs.Call.{cuts_of}
+use Rattle.cuts.specs.Call.{all_complete, cuts_of}
 use Rattle.cuts.specs.Stages.{edge_in, EdgesCut}
-use Rattle.cuts.specs.declared.Cuts.TheVariants.{Complete, Refused}
+use Rattle.std.specs.Prelude.{Err}
+use Rattle.lattice.specs.declared.Refusal.{Refusal}
+use Rattle.lattice.specs.declared.Refusal.TheVariants.{Room, ResidualNotFinite}
 
 -- ---- edge i of a list, by its words
 
@@ -93,32 +95,32 @@ module _ (solved : Edge → Solved) (cut : Edge → Point) (es : List Edge) (bef
 -- ---- the answers
 
 module _ (solved : Edge → Solved) (nodes : ℕ) (es : List Edge) (places : ℕ) where
-  short : places < length es * 3 → cuts_of solved nodes es places ≡ Refused 35
+  short : places < length es * 3 → cuts_of solved nodes es places ≡ Err Room
   unfolding cuts_of
   short h = rw (lt-leb (length es * 3) places h) refl
 
   module _ (h : length es * 3 ≤ places) where
-    broken : all_cut? solved es ≡ false → cuts_of solved nodes es places ≡ Refused 37
+    broken : all_cut? solved es ≡ false → cuts_of solved nodes es places ≡ Err ResidualNotFinite
     unfolding cuts_of
     broken q = rw (le-leb (length es * 3) places h, q) refl
 
-    complete : all_cut? solved es ≡ true → cuts_of solved nodes es places ≡ Complete nodes (length es) (fields_taken solved es)
+    complete : all_cut? solved es ≡ true → cuts_of solved nodes es places ≡ all_complete nodes (length es) (fields_taken solved es)
     unfolding cuts_of
     complete q = rw (le-leb (length es * 3) places h, q) refl
 
 module _ (solved : Edge → Solved) (cut : Edge → Point) (nodes : ℕ) (es : List Edge) (before : List Float) where
-  refused : {now : List Float} (k : ℕ) → Refused k ≡ cuts_of solved nodes es (length before) → length now ≡ length before → EdgesCut solved cut nodes es before now (Refused k)
-  refused k q l = record { answer = q; size = l; room = omega arith; front = refl }
+  refused : {now : List Float} (why : Refusal) → Err why ≡ cuts_of solved nodes es (length before) → length now ≡ length before → EdgesCut solved cut nodes es before now (Err why)
+  refused why q l = record { answer = q; size = l; room = omega arith; front = refl }
 
-  pub refused_35 : length before < length es * 3 → EdgesCut solved cut nodes es before before (Refused 35)
-  refused_35 h = refused 35 (sym (short solved nodes es (length before) h)) refl
+  pub refused_35 : length before < length es * 3 → EdgesCut solved cut nodes es before before (Err Room)
+  refused_35 h = refused Room (sym (short solved nodes es (length before) h)) refl
 
   module _ (room : length es * 3 ≤ length before) {now : List Float} (size : length now ≡ length before) {fields e : ℕ} (w : Walk solved cut es before now fields e) where
-    pub refused_37 : e < length es → is_cut (solved (get_or es e no_edge)).cut ≡ false → EdgesCut solved cut nodes es before now (Refused 37)
+    pub refused_37 : e < length es → is_cut (solved (get_or es e no_edge)).cut ≡ false → EdgesCut solved cut nodes es before now (Err ResidualNotFinite)
     unfolding all_cut?
-    refused_37 h q = refused 37 (sym (broken solved nodes es (length before) room (sym w.whole ∙ all_out (λ (x : Edge). is_cut (solved x).cut) no_edge es e h q))) size
+    refused_37 h q = refused ResidualNotFinite (sym (broken solved nodes es (length before) room (sym w.whole ∙ all_out (λ (x : Edge). is_cut (solved x).cut) no_edge es e h q))) size
 
-    pub all_cut : (count : ℕ) → count ≡ length es → length es ≤ e → EdgesCut solved cut nodes es before now (Complete nodes count fields)
+    pub all_cut : (count : ℕ) → count ≡ length es → length es ≤ e → EdgesCut solved cut nodes es before now (all_complete nodes count fields)
     unfolding all_cut? fields_taken cut_numbers
     all_cut count c h =
         let none : drop e es ≡ [] = drop_of_length-le es h in
@@ -126,7 +128,7 @@ module _ (solved : Edge → Solved) (cut : Edge → Point) (nodes : ℕ) (es : L
         let stored : now ≡ sets before 0 (cut_numbers cut es) = sym (ap (λ (l : List Edge). sets now (e * 3) (cut_numbers cut l)) none) ∙ w.stored in
         let whole : every (λ (x : Edge). is_cut (solved x).cut) es ≡ true = sym w.whole ∙ all_done (λ (x : Edge). is_cut (solved x).cut) es e h in
         record {
-          answer = ap₂ (λ (m t : ℕ). Complete nodes m t) c taken ∙ sym (complete solved nodes es (length before) room whole);
+          answer = ap₂ (λ (m t : ℕ). all_complete nodes m t) c taken ∙ sym (complete solved nodes es (length before) room whole);
           size = size;
           room = omega arith;
           front =
@@ -174,13 +176,13 @@ module _ (solved : Edge → Solved) (cut : Edge → Point) (words : List ℕ) (b
       fits : length es * 3 ≤ length before
       fits = let n : found ≡ length es = listed es q in subst (λ (m : ℕ). m * 3 ≤ length before) n t.room
 
-      pub turning_37 : e < found → is_cut (solved (edge_in words e)).cut ≡ false → EdgesCut solved cut nodes es before now (Refused 37)
+      pub turning_37 : e < found → is_cut (solved (edge_in words e)).cut ≡ false → EdgesCut solved cut nodes es before now (Err ResidualNotFinite)
       turning_37 h c =
           let n : found ≡ length es = listed es q in
           refused_37 solved cut nodes es before fits t.size (t.walk es q) (omega arith) (sym (ap (λ (x : Edge). is_cut (solved x).cut) (at_edge es q h)) ∙ c)
 
-      pub turning_ends : found ≤ e → EdgesCut solved cut nodes es before now (Complete nodes found fields)
+      pub turning_ends : found ≤ e → EdgesCut solved cut nodes es before now (all_complete nodes found fields)
       turning_ends h = let n : found ≡ length es = listed es q in all_cut solved cut nodes es before fits t.size (t.walk es q) found n (omega arith)
 
-  pub turning_35 : (nodes : ℕ) → length before < length words / 3 * 3 → (es : List Edge) → words ≡ edge_words es → EdgesCut solved cut nodes es before before (Refused 35)
+  pub turning_35 : (nodes : ℕ) → length before < length words / 3 * 3 → (es : List Edge) → words ≡ edge_words es → EdgesCut solved cut nodes es before before (Err Room)
   turning_35 nodes h es q = refused_35 solved cut nodes es before (subst (λ (m : ℕ). length before < m * 3) (words_count es words q) h)

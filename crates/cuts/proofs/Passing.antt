@@ -8,7 +8,7 @@ use native.Mathlib.Omega.{arith}
 use lib.Dec.{leb}
 use lib.ListN.{length, get_or}
 use borrow.Author.Tests.{leb-true, le-leb}
-use Rattle.lattice.specs.Sample.{SampledField, LatticeLists, nodes, raw_values, lattice_edges, or_refused, after_nodes, lattice_of, lattice_number}
+use Rattle.lattice.specs.Sample.{SampledField, LatticeLists, Lattice, all_sampled, nodes, raw_values, lattice_edges, or_refused, after_nodes, lattice_of, lattice_number}
 use Rattle.lattice.specs.Laws.{no_edge, Samples}
 use Rattle.lattice.specs.Edges.{Edge}
 use Rattle.surface.specs.Check.{every}
@@ -16,24 +16,23 @@ use Rattle.float.specs.Order.{is_finite}
 use Rattle.field.specs.Valid as Valid
 use Rattle.field.specs.Valid.{sheet_ok}
 use Rattle.surface.proofs.All.{all-at}
-use Rattle.lattice.specs.declared.Lattice.{Lattice}
-use Rattle.lattice.specs.declared.Lattice.TheVariants.{Sampled, Refused}
+use Rattle.std.specs.Prelude.{Ok, Err}
+use Rattle.lattice.specs.declared.Refusal.TheVariants.{FieldSheet, Cells, Room, ValueNotFinite, ResidualNotFinite}
 use Rattle.lattice.proofs.Answers as Answers
 use Rattle.cuts.specs.Edges.{is_cut, all_cut?, fields_taken}
-use Rattle.cuts.specs.Call.{CutLists, solved_edge, cuts_of, after_sampling, cutting_of, lattice_in, cuts_number}
+use Rattle.cuts.specs.Call.{CutLists, solved_edge, Cuts, all_complete, counted_in, cuts_of, after_sampling, cutting_of, lattice_in, cuts_number}
 use Rattle.cuts.specs.Laws.{CutsAll}
 use Rattle.cuts.specs.Stages.{CutFronts}
-use Rattle.cuts.specs.declared.Cuts.{Cuts}
-use Rattle.cuts.specs.declared.Cuts.TheVariants as cuts
+use Rattle.cuts.specs.declared.Complete.{Complete}
 
 module _ (f : SampledField) (lent : CutLists) where
   -- the questions of sampling come first
   sampled-first : (l : Lattice) → cuts_number (after_sampling f (length lent.cuts) l) ≡ 0 → lattice_number l ≡ 0
   unfolding after_sampling
-  sampled-first (Sampled n m) e = refl
-  sampled-first (Refused k) e = e
+  sampled-first (Ok s) e = refl
+  sampled-first (Err why) e = e
 
-  passes : (b c : Bool) (n m t : ℕ) → cuts_number (cond b (cond c (cuts.Complete n m t) (cuts.Refused 37)) (cuts.Refused 35)) ≡ 0 → (b ≡ true) × (c ≡ true)
+  passes : (b c : Bool) (n m t : ℕ) → cuts_number (cond b (cond c (all_complete n m t) (Err ResidualNotFinite)) (Err Room)) ≡ 0 → (b ≡ true) × (c ≡ true)
   passes true true n m t e = (refl, refl)
   passes true false n m t e = absurd (omega arith)
   passes false c n m t e = absurd (omega arith)
@@ -46,7 +45,7 @@ module _ (f : SampledField) (lent : CutLists) where
       let p = passes (leb (length (lattice_edges f) * 3) (length lent.cuts)) (all_cut? (solved_edge f) (lattice_edges f)) _ _ _ (sym (ap cuts_number q) ∙ e) in
       record { samples = s; cut_room = leb-true _ _ p.0; finite = p.1 }
 
-  pub passes_cut : CutsAll f lent → cutting_of f lent ≡ cuts.Complete (nodes f.cells) (length (lattice_edges f)) (fields_taken (solved_edge f) (lattice_edges f))
+  pub passes_cut : CutsAll f lent → cutting_of f lent ≡ all_complete (nodes f.cells) (length (lattice_edges f)) (fields_taken (solved_edge f) (lattice_edges f))
   unfolding after_sampling cuts_of
   passes_cut p =
       ap (after_sampling f (length lent.cuts)) (Answers.passes-sampled f lent.lattice p.samples)
@@ -56,13 +55,14 @@ module _ (f : SampledField) (lent : CutLists) where
   zero_means = (zero-passes, λ p. ap cuts_number (passes_cut p))
 
   -- up to 129³ nodes, and fourteen edges a node
-  pub small-counts : (n m t : ℕ) → cutting_of f lent ≡ cuts.Complete n m t → (n ≤ 2146689) × (m ≤ 30053646)
-  small-counts n m t e =
+  pub small-counts : (c : Complete) → cutting_of f lent ≡ Ok c → (c.nodes ≤ 2146689) × (c.edges ≤ 30053646)
+  small-counts c e =
       let p = zero-passes (ap cuts_number e) in
-      Answers.small-counts f lent.lattice n m (Answers.passes-sampled f lent.lattice p.samples ∙ sym (ap lattice_in (passes_cut p)) ∙ ap lattice_in e)
+      Answers.small-counts f lent.lattice (record { nodes = c.nodes; edges = c.edges }) (Answers.passes-sampled f lent.lattice p.samples ∙ sym (ap lattice_in (passes_cut p)) ∙ ap lattice_in e)
 
-pub few_cut : (f : SampledField) {lent after : CutLists} {r : Cuts} {n m t : ℕ} → CutFronts f lent after r → r ≡ cuts.Complete n m t → m ≤ 30053646
-few_cut f {lent} {after} {r} {n} {m} {t} c s = (small-counts f lent n m t (sym c.answer ∙ s)).1
+pub few_cut : (f : SampledField) {lent after : CutLists} (r : Cuts) {s : Complete} → CutFronts f lent after r → s ≡ counted_in r → s.edges ≤ 30053646
+few_cut f {lent} {after} (Ok c) {s} u e = let h = (small-counts f lent c (sym u.answer)).1 in let m : s.edges ≡ c.edges = ap (λ (x : Complete). x.edges) e in omega arith
+few_cut f {lent} {after} (Err why) {s} u e = let m : s.edges ≡ 0 = ap (λ (x : Complete). x.edges) e in omega arith
 
 -- ---- each edge
 
@@ -86,7 +86,7 @@ fails-at p (e ∷ es) h = go (λ k. fails-at p es k) (p e) refl h
 -- ---- 37
 
 -- it is no number of sampling's
-by_tests : (a b c d e : Bool) (n m : ℕ) → lattice_number (or_refused a 13 (or_refused b 34 (or_refused c 35 (or_refused d 36 (or_refused e 35 (Sampled n m)))))) ≡ 37 → ⊥
+by_tests : (a b c d e : Bool) (n m : ℕ) → lattice_number (or_refused a FieldSheet (or_refused b Cells (or_refused c Room (or_refused d ValueNotFinite (or_refused e Room (all_sampled n m)))))) ≡ 37 → ⊥
 by_tests false b c d e n m q = omega arith
 by_tests true false c d e n m q = omega arith
 by_tests true true false d e n m q = omega arith
@@ -106,15 +106,15 @@ pub fails_37 : (f : SampledField) (lent : CutLists) → cuts_number (cutting_of 
 unfolding after_sampling cuts_of all_cut?
 fails_37 f lent e = go (lattice_of f lent.lattice) refl e
   where
-    broken : (b c : Bool) (n m t : ℕ) → cuts_number (cond b (cond c (cuts.Complete n m t) (cuts.Refused 37)) (cuts.Refused 35)) ≡ 37 → c ≡ false
+    broken : (b c : Bool) (n m t : ℕ) → cuts_number (cond b (cond c (all_complete n m t) (Err ResidualNotFinite)) (Err Room)) ≡ 37 → c ≡ false
     broken true true n m t e = absurd (omega arith)
     broken true false n m t e = refl
     broken false c n m t e = absurd (omega arith)
 
     go : (l : Lattice) → lattice_of f lent.lattice ≡ l → cuts_number (after_sampling f (length lent.cuts) l) ≡ 37
         → Samples f lent.lattice × ((i : ℕ) × (i < length (lattice_edges f)) × (is_cut (solved_edge f (get_or (lattice_edges f) i no_edge)).cut ≡ false))
-    go (Sampled n m) q k = (
+    go (Ok s) q k = (
       Answers.zero-passes f lent.lattice (ap lattice_number q),
-      fails-at (λ (e : Edge). is_cut (solved_edge f e).cut) (lattice_edges f) (broken (leb (length (lattice_edges f) * 3) (length lent.cuts)) (all_cut? (solved_edge f) (lattice_edges f)) n (length (lattice_edges f)) (fields_taken (solved_edge f) (lattice_edges f)) k),
+      fails-at (λ (e : Edge). is_cut (solved_edge f e).cut) (lattice_edges f) (broken (leb (length (lattice_edges f) * 3) (length lent.cuts)) (all_cut? (solved_edge f) (lattice_edges f)) s.nodes (length (lattice_edges f)) (fields_taken (solved_edge f) (lattice_edges f)) k),
     )
-    go (Refused n) q k = absurd (never_37 f lent.lattice (ap lattice_number q ∙ k))
+    go (Err why) q k = absurd (never_37 f lent.lattice (ap lattice_number q ∙ k))

@@ -1,17 +1,17 @@
 -- Cutting the edges of a sampled field (document 02, F-7): the answer of every call, and each list afterwards. Definitions only.
-use Rattle.std.specs.Prelude.{ℕ, ◌*◌, ◌≡◌, cond, List, [], ◌∷◌, leb, length, Float}
+use Rattle.std.specs.Prelude.{ℕ, ◌*◌, ◌≡◌, cond, List, [], ◌∷◌, leb, length, Float, Result, Ok, Err}
+use Rattle.std.specs.Result.{result_unwrap_or}
 use Rattle.blank.specs.Blank.{then_blank}
 use Rattle.float.specs.declared.Point.{Point}
 use Rattle.field.specs.Number.{plus_zero}
 use Rattle.lattice.specs.Node.{per_side}
 use Rattle.lattice.specs.Edges.{Edge}
-use Rattle.lattice.specs.Sample.{SampledField, LatticeLists, lattice_grid, lattice_values, lattice_edges, lattice_of, lattice_number, when_sampled, LatticeGiven}
-use Rattle.lattice.specs.declared.Lattice.{Lattice}
-use Rattle.lattice.specs.declared.Lattice.TheVariants.{Sampled, Refused}
+use Rattle.lattice.specs.Sample.{SampledField, LatticeLists, Lattice, all_sampled, lattice_grid, lattice_values, lattice_edges, lattice_of, lattice_number, when_sampled, LatticeGiven}
+use Rattle.lattice.specs.declared.Refusal.{Refusal}
+use Rattle.lattice.specs.declared.Refusal.TheVariants.{Room, ResidualNotFinite}
 use Rattle.solve.specs.declared.Solved.{Solved}
 use Rattle.cuts.specs.Edges.{solved_in, cut_in, all_cut?, fields_taken, cut_numbers}
-use Rattle.cuts.specs.declared.Cuts.{Cuts}
-use Rattle.cuts.specs.declared.Cuts.TheVariants as cuts
+use Rattle.cuts.specs.declared.Complete.{Complete}
 
 -- the lists that a call is lent for its answers: those of sampling, and one for the cuts
 pub record CutLists : Type 0 where
@@ -31,6 +31,17 @@ edge_cut_point f = cut_in f.coefficients f.powers f.levels (per_side f.cells) (l
 
 -- ---- the answer
 
+-- how many nodes and edges there are, and how many field values were taken on edges, or why there are none
+abbrev pub Cuts : Type 0
+Cuts = Result Complete Refusal
+
+abbrev pub all_complete : (nodes edges taken : ℕ) → Cuts
+all_complete nodes edges taken = Ok (record { nodes = nodes; edges = edges; taken = taken })
+
+-- what it counts: nothing after a refusal
+abbrev pub counted_in : Cuts → Complete
+counted_in r = result_unwrap_or r (record { nodes = 0; edges = 0; taken = 0 })
+
 -- with so many nodes, edges solved so and places for cuts
 unfoldable pub cuts_of : (Edge → Solved) → (nodes : ℕ) → List Edge → (cut_places : ℕ) → Cuts
 unfolding all_cut? fields_taken
@@ -38,22 +49,22 @@ cuts_of solved nodes es cut_places =
     -- Has the list of cuts room?
     cond (leb (length es * 3) cut_places)
     -- Is every residual finite?
-    (cond (all_cut? solved es) (cuts.Complete nodes (length es) (fields_taken solved es)) (cuts.Refused 37))
-    (cuts.Refused 35)
+    (cond (all_cut? solved es) (all_complete nodes (length es) (fields_taken solved es)) (Err ResidualNotFinite))
+    (Err Room)
 
 -- first sampling's questions
 unfoldable pub after_sampling : SampledField → (cut_places : ℕ) → Lattice → Cuts
 unfolding cuts_of lattice_edges solved_in
-after_sampling f cut_places (Sampled nodes edges) = cuts_of (solved_edge f) nodes (lattice_edges f) cut_places
-after_sampling f cut_places (Refused number) = cuts.Refused number
+after_sampling f cut_places (Ok sampled) = cuts_of (solved_edge f) sampled.nodes (lattice_edges f) cut_places
+after_sampling f cut_places (Err why) = Err why
 
 abbrev pub cutting_of : SampledField → CutLists → Cuts
 cutting_of f lent = after_sampling f (length lent.cuts) (lattice_of f lent.lattice)
 
 -- sampling's part of an answer
 abbrev pub lattice_in : Cuts → Lattice
-lattice_in (cuts.Complete nodes edges fields) = Sampled nodes edges
-lattice_in (cuts.Refused number) = Refused number
+lattice_in (Ok c) = all_sampled c.nodes c.edges
+lattice_in (Err why) = Err why
 
 -- 0 where the edges are cut, else the number of the refusal
 abbrev pub cuts_number : Cuts → ℕ
@@ -61,13 +72,13 @@ cuts_number r = lattice_number (lattice_in r)
 
 -- nodes in the grid, nodes in the values, edges, cuts; all 0 after a refusal
 abbrev pub cuts_counts : Cuts → List ℕ
-cuts_counts (cuts.Complete nodes edges fields) = nodes ∷ nodes ∷ edges ∷ edges ∷ []
-cuts_counts (cuts.Refused number) = 0 ∷ 0 ∷ 0 ∷ 0 ∷ []
+cuts_counts (Ok c) = c.nodes ∷ c.nodes ∷ c.edges ∷ c.edges ∷ []
+cuts_counts (Err why) = 0 ∷ 0 ∷ 0 ∷ 0 ∷ []
 
 -- field values taken on edges
 abbrev pub cuts_fields : Cuts → ℕ
-cuts_fields (cuts.Complete nodes edges fields) = fields
-cuts_fields (cuts.Refused number) = 0
+cuts_fields (Ok c) = c.taken
+cuts_fields (Err why) = 0
 
 -- ---- the lists afterwards: each is what it is given, then 0; nothing is given after a refusal
 

@@ -1,5 +1,6 @@
 -- Where the level of an edge's label cuts it, by a grid and the values at its nodes; and the cuts of a list of edges. Definitions only.
-use Rattle.std.specs.Prelude.{ℕ, ◌+◌, ◌*◌, Bool, true, false, List, [], ◌∷◌, get_or, Float}
+use Rattle.std.specs.Prelude.{ℕ, ◌+◌, ◌*◌, Bool, List, [], ◌∷◌, get_or, Float, Option, Some, None}
+use Rattle.std.specs.Option.{is_some}
 use Rattle.std.specs.Float.{nan}
 use Rattle.float.specs.declared.Point.{Point}
 use Rattle.float.specs.Point.{less}
@@ -7,7 +8,7 @@ use Rattle.surface.specs.Check.{every}
 use Rattle.lattice.specs.Edges.{Edge, step_end, level_of, value_at}
 use Rattle.solve.specs.Solve.{residual, point_between, solve}
 use Rattle.solve.specs.declared.Cut.{Cut}
-use Rattle.solve.specs.declared.Cut.TheVariants.{First, Second, At, NotFinite}
+use Rattle.solve.specs.declared.Cut.TheVariants.{First, Second, At}
 use Rattle.solve.specs.declared.Solved.{Solved}
 
 -- ---- one edge
@@ -35,17 +36,14 @@ module _ (qs : List Float) (ns : List ℕ) (levels : List Float) (n : ℕ) (grid
   solved_in e = solve (residual_along e) (level_in levels e.label) (residual_of e e.node) (residual_of e (step_end n e.node e.step))
 
 -- the point of a cut between a and b: a node that is the cut is its own place. (There is none where a residual is not finite.)
-unfoldable pub cut_point : Point → Point → Cut → Point
-cut_point a b First = a
-cut_point a b Second = b
-cut_point a b (At t) = point_between a b t
-cut_point a b NotFinite = a
+unfoldable pub cut_point : Point → Point → Option Cut → Point
+cut_point a b (Some First) = a
+cut_point a b (Some Second) = b
+cut_point a b (Some (At t)) = point_between a b t
+cut_point a b None = a
 
-unfoldable pub is_cut : Cut → Bool
-is_cut First = true
-is_cut Second = true
-is_cut (At t) = true
-is_cut NotFinite = false
+unfoldable pub is_cut : Option Cut → Bool
+is_cut cut = is_some cut
 
 unfoldable pub cut_in : List Float → List ℕ → List Float → ℕ → List Float → List Float → Edge → Point
 unfolding solved_in cut_point

@@ -1,5 +1,5 @@
 -- What the functions of `cuts` are handed and what they leave: the nodes of listed edges, and the fronts of the lists. Definitions only.
-use Rattle.std.specs.Prelude.{ℕ, ◌+◌, ◌*◌, ◌≤◌, ◌<◌, ◌≡◌, List, length, take, get_or, Float}
+use Rattle.std.specs.Prelude.{ℕ, ◌+◌, ◌*◌, ◌≤◌, ◌<◌, ◌≡◌, List, length, take, get_or, cond, Float, Result, Ok, Err}
 use Rattle.float.specs.declared.Point.{Point}
 use Rattle.lattice.specs.Node.{cube}
 use Rattle.lattice.specs.Edges.{Edge, step_end, edge_words}
@@ -7,22 +7,22 @@ use Rattle.lattice.specs.Sample.{SampledField, lattice_edges, when_sampled}
 use Rattle.lattice.specs.Stages.{edges_in, FrontsFilled}
 use Rattle.solve.specs.declared.Solved.{Solved}
 use Rattle.cuts.specs.Edges.{solved_in, cut_in, is_cut, cut_numbers}
-use Rattle.cuts.specs.Call.{CutLists, edge_cut_point, cuts_of, cutting_of, lattice_in}
-use Rattle.cuts.specs.declared.Cuts.{Cuts}
+use Rattle.cuts.specs.Call.{CutLists, edge_cut_point, Cuts, cuts_of, cutting_of, lattice_in}
+use Rattle.lattice.specs.declared.Refusal.{Refusal}
+use Rattle.lattice.specs.declared.Refusal.TheVariants.{ResidualNotFinite}
 use Rattle.cuts.specs.declared.edges.EdgeCut.{EdgeCut}
 
 -- edge e of a list, three words each
 abbrev pub edge_in : List ℕ → ℕ → Edge
 edge_in edges e = record { node = get_or edges (e * 3) 0; step = get_or edges (e * 3 + 1) 0; label = get_or edges (e * 3 + 2) 0 }
 
--- its cut, with what it took
-unfoldable pub edge_cut : List Float → List ℕ → List Float → ℕ → List Float → List Float → Edge → EdgeCut
+-- its cut, with what it took, if it has one
+unfoldable pub edge_cut : List Float → List ℕ → List Float → ℕ → List Float → List Float → Edge → Result EdgeCut Refusal
 unfolding solved_in cut_in is_cut
-edge_cut qs ns levels n grid values e = record {
-  point = cut_in qs ns levels n grid values e;
-  whole = is_cut (solved_in qs ns levels n grid values e).cut;
-  taken = (solved_in qs ns levels n grid values e).taken;
-}
+edge_cut qs ns levels n grid values e =
+    cond (is_cut (solved_in qs ns levels n grid values e).cut)
+    (Ok (record { point = cut_in qs ns levels n grid values e; taken = (solved_in qs ns levels n grid values e).taken }))
+    (Err ResidualNotFinite)
 
 -- the lists have edge e and its two nodes, of n to a side
 pub record AtEdge (n : ℕ) (grid values : List Float) (edges : List ℕ) (e : ℕ) : Type 0 where

@@ -3,65 +3,50 @@
 
 mod edges;
 
-ghost use Rattle.lattice.specs.Sample.{told, lists};
+ghost use Rattle.lattice.specs.Sample.{told, field_told, lists};
 ghost use Rattle.cuts.specs.Call.{cut_lists, CutsCall};
 ghost use Rattle.cuts.specs.Stages.{CutFronts};
 
-use blank::blank_numbers;
-use edges::cut_edges;
-use lattice::{Lattice, ask_and_fill, blank_behind};
+use blank::blank;
+use edges::Listed;
+use field::Terms;
+use lattice::{Refusal, Told, blank_behind};
 
 // How many nodes and how many edges the lists have, each edge with its cut, and how many field values were taken for
-// these; or the number of the refusal.
-#[derive(Clone, Copy)]
-pub enum Cuts {
-    Complete(usize, usize, u64),
-    Refused(u32),
+// these.
+#[derive(Clone, Copy, Debug, PartialEq, Eq)]
+pub struct Complete {
+    pub nodes: usize,
+    pub edges: usize,
+    pub taken: u64,
 }
 
 // All the questions, and the fronts of the lists.
 fn ask_and_cut(
-    coefficients: &[f64],
-    powers: &[u32],
-    levels: &[f64; 2],
-    bounds: &[f64; 6],
-    cells: u32,
+    told: &Told,
     grid: &mut [f64],
     values: &mut [f64],
     edges: &mut [u32],
     cuts: &mut [f64],
-) -> Cuts
-    ensures { CutFronts (told coefficients.now powers.now levels.now bounds.now cells) (cut_lists (lists grid.old values.old edges.old) cuts.old) (cut_lists (lists grid.new values.new edges.new) cuts.new) result }
+) -> Result<Complete, Refusal>
+    ensures { CutFronts (field_told told.now) (cut_lists (lists grid.old values.old edges.old) cuts.old) (cut_lists (lists grid.new values.new edges.new) cuts.new) result }
 {
-    match ask_and_fill(
-        coefficients,
-        powers,
-        levels,
-        bounds,
-        cells,
-        grid,
-        values,
-        edges,
-    ) {
-        Lattice::Sampled(nodes, found) => cut_edges(
-            coefficients,
-            powers,
-            levels,
-            cells as usize + 1,
-            &grid[..nodes * 3],
-            &values[..nodes],
-            &edges[..found * 3],
-            cuts,
-        ),
-        Lattice::Refused(why) => Cuts::Refused(why),
-    }
+    let sampled = told.ask_and_fill(grid, values, edges)?;
+    let listed = Listed {
+        terms: told.terms,
+        levels: told.levels,
+        n: told.side(),
+        grid: &grid[..sampled.nodes * 3],
+        values: &values[..sampled.nodes],
+        edges: &edges[..sampled.edges * 3],
+    };
+    listed.cut_edges(cuts)
 }
 
 // Samples a field on the lattice of a box and cuts the listed edges. The lists may be longer than the answers: behind
 // these they are 0 afterwards, and after a refusal they are all 0.
 pub fn cut(
-    coefficients: &[f64],
-    powers: &[u32],
+    terms: &Terms,
     levels: &[f64; 2],
     bounds: &[f64; 6],
     cells: u32,
@@ -69,29 +54,22 @@ pub fn cut(
     values: &mut [f64],
     edges: &mut [u32],
     cuts: &mut [f64],
-) -> Cuts
-    ensures { CutsCall (told coefficients.now powers.now levels.now bounds.now cells) (cut_lists (lists grid.old values.old edges.old) cuts.old) (cut_lists (lists grid.new values.new edges.new) cuts.new) result }
+) -> Result<Complete, Refusal>
+    ensures { CutsCall (told terms.now.coefficients.now terms.now.powers.now levels.now bounds.now cells) (cut_lists (lists grid.old values.old edges.old) cuts.old) (cut_lists (lists grid.new values.new edges.new) cuts.new) result }
 {
-    match ask_and_cut(
-        coefficients,
-        powers,
+    let told = Told {
+        terms,
         levels,
         bounds,
         cells,
-        grid,
-        values,
-        edges,
-        cuts,
-    ) {
-        Cuts::Complete(nodes, found, fields) => {
-            blank_behind(grid, values, edges, nodes, found);
-            blank_numbers(cuts, found * 3);
-            Cuts::Complete(nodes, found, fields)
-        }
-        Cuts::Refused(why) => {
-            blank_behind(grid, values, edges, 0, 0);
-            blank_numbers(cuts, 0);
-            Cuts::Refused(why)
-        }
-    }
+    };
+    let filled = ask_and_cut(&told, grid, values, edges, cuts);
+    let counted = filled.unwrap_or(Complete {
+        nodes: 0,
+        edges: 0,
+        taken: 0,
+    });
+    blank_behind(grid, values, edges, counted.nodes, counted.edges);
+    blank(cuts, counted.edges * 3);
+    filled
 }

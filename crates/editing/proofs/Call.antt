@@ -1,25 +1,24 @@
 -- A whole call: what each end leaves is what `EditRun` says.
 use Prim.Native.Nat.{ℕ, ◌*◌, ◌-◌, ◌/◌, ◌%◌, ◌≤◌}
 use mathlib.Core.Path.{◌≡◌, refl, sym, ◌∙◌, ap, ap₂, subst}
-use mathlib.Core.Bool.{Bool, ◌&&◌}
+use mathlib.Core.Bool.{Bool, true, false}
 use mathlib.Core.List.{List, [], ◌++◌, append-nil}
 use native.Mathlib.Omega.{arith}
 use lib.Dec.{eqb}
 use lib.Ieee.{Float}
 use lib.ListN.{length, take, drop, replicate, take-append-drop, length-replicate}
-use lib.Seq.{take_all, drop_at, drop-length, length-take-le}
-use borrow.Author.Tests.{eq-eqb, ne_eqb}
+use lib.Seq.{take_all, drop_at, length-take-le}
+use borrow.Author.Tests.{eqb-true}
 use Rattle.surface.specs.Triangle.{triangles, corners}
 use Rattle.surface.specs.Flat.{held}
 use Rattle.surface.proofs.Flat.{length-triangles, corners-triangles, length-corners, used-below}
 use Rattle.surface.proofs.Held.{length-held}
 use Rattle.questions.specs.Questions.{needed as words-needed, ask, and_then, cleared, work_after, Admits}
-use Rattle.questions.specs.Refusal.{refusal_number, asked_number}
+use Rattle.questions.specs.Refusal.{Asked, refusal_number, asked_number}
 use Rattle.questions.specs.Admitted.{Admitted}
 use Rattle.questions.specs.declared.Refusal.{Refusal}
-use Rattle.questions.specs.declared.Refusal.TheVariants.{Question}
-use Rattle.questions.specs.declared.Asked.{Asked}
-use Rattle.questions.specs.declared.Asked.TheVariants as asked
+use Rattle.questions.specs.declared.Refusal.TheVariants.{Entries}
+use Rattle.surface.proofs.Bools.{both}
 use Rattle.questions.proofs.Laws.{passed_admitted}
 use Rattle.history.specs.History.{Pair, History, last, begun, after, verdicts}
 use Rattle.history.specs.Lists.{lent_pair, entries, records, then_zero, history_of}
@@ -29,8 +28,9 @@ use Rattle.history.specs.Entry.{needed, Good, Standing}
 use Rattle.editing.specs.Held.{Holds}
 use Rattle.editing.specs.Run.{Starting, first, Ran}
 use Rattle.editing.proofs.Held.{records-length}
-use Rattle.editing.specs.Edit.{edit_questions, answer_of, EditRun}
-use Rattle.editing.specs.declared.Outcome.TheVariants.{Edited, Refused}
+use Rattle.editing.specs.Edit.{in_threes?, edit_questions, answer_of, EditRun}
+use Rattle.std.specs.Prelude.{Result, Ok, Err}
+use Rattle.editing.specs.declared.Left.{Left}
 
 -- a list that is n long, taken whole
 whole_pair : (l ls : List ℕ) → length l ≡ 3 * length ls → pair_of l ls (length ls) ≡ lent_pair l ls
@@ -62,12 +62,15 @@ module _ {points : List Float} {c l w : List ℕ} (a : Admitted points c l w) wh
     work = let x = a.enough-words in let y = a.a-label-each in omega arith;
   }
 
+abbrev accepted : ℕ → ℕ → Result Left Refusal
+accepted triangles edits = Ok (record { triangles = triangles; edits = edits })
+
 -- a call that is refused
 module _ (points : List Float) (c l w es v j : List ℕ) where
   abbrev h : History
   h = history_of c l es j
 
-  refused : (why : Refusal) → edit_questions points c l w es v ≡ asked.Refused why → {w' : List ℕ} → w' ≡ work_after (refusal_number why) points c w → EditRun points c l w es v j c l w' v j (Refused why)
+  refused : (why : Refusal) → edit_questions points c l w es v ≡ Err why → {w' : List ℕ} → w' ≡ work_after (refusal_number why) points c w → EditRun points c l w es v j c l w' v j (Err why)
   refused why e f = record {
     answer = sym (ap (λ (q : Asked). answer_of q h) e);
     corners = refl;
@@ -78,41 +81,40 @@ module _ (points : List Float) (c l w es v j : List ℕ) where
   }
 
   module _ {a : Asked} {w' : List ℕ} (d : Admits points c l w w' a) where
-    answer-is : {b : Asked} → a ≡ b → edit_questions points c l w es v ≡ and_then b (ask (eqb (length es % 3) 0 && eqb (length v) (length es / 3)) 15 asked.Passed)
+    answer-is : {b : Asked} → a ≡ b → edit_questions points c l w es v ≡ and_then b (ask (in_threes? es v) Entries (Ok tt))
     unfolding edit_questions
-    answer-is e = ap (λ (q : Asked). and_then q (ask (eqb (length es % 3) 0 && eqb (length v) (length es / 3)) 15 asked.Passed)) (sym d.answer ∙ e)
+    answer-is e = ap (λ (q : Asked). and_then q (ask (in_threes? es v) Entries (Ok tt))) (sym d.answer ∙ e)
 
     words_are : {b : Asked} → a ≡ b → w' ≡ work_after (asked_number b) points c w
     words_are e = d.words ∙ ap (λ (q : Asked). work_after (asked_number q) points c w) e
 
     -- by a question about the surface
-    pub refused_surface : {why : Refusal} → a ≡ asked.Refused why → EditRun points c l w es v j c l w' v j (Refused why)
+    pub refused_surface : {why : Refusal} → a ≡ Err why → EditRun points c l w es v j c l w' v j (Err why)
     refused_surface {why} e = refused why (answer-is e) (words_are e)
 
-  module _ {a : Asked} {w' : List ℕ} (d : Admits points c l w w' a) (z : a ≡ asked.Passed) where
+  module _ {a : Asked} {w' : List ℕ} (d : Admits points c l w w' a) (z : a ≡ Ok tt) where
     cleared-words : w' ≡ cleared (words-needed points c) w
     cleared-words = words_are d z
 
     -- by question 15
-    pub no_threes : (length es % 3 ≡ 0 → ⊥) → EditRun points c l w es v j c l w' v j (Refused (Question 15))
-    no_threes n = refused (Question 15) (answer-is d z ∙ ap (λ (t : Bool). ask (t && eqb (length v) (length es / 3)) 15 asked.Passed) (ne_eqb (length es % 3) 0 n)) cleared-words
-
-    pub no_word-each : length es % 3 ≡ 0 → (length v ≡ length es / 3 → ⊥) → EditRun points c l w es v j c l w' v j (Refused (Question 15))
-    no_word-each e n =
-        refused (Question 15)
-        (answer-is d z ∙ ap (λ (t : Bool). ask (t && eqb (length v) (length es / 3)) 15 asked.Passed) (eq-eqb (length es % 3) 0 e) ∙ ap (λ (t : Bool). ask t 15 asked.Passed) (ne_eqb (length v) (length es / 3) n))
-        cleared-words
+    pub no_threes : in_threes? es v ≡ false → EditRun points c l w es v j c l w' v j (Err Entries)
+    no_threes n = refused Entries (answer-is d z ∙ ap (λ (t : Bool). ask t Entries (Ok tt)) n) cleared-words
 
     -- the run is started
-    module _ (e : length es % 3 ≡ 0) (f : length v ≡ length es / 3) (same : length w' ≡ length w) {j₁ : List ℕ} (size : length j₁ ≡ length j) (clear : j₁ ≡ replicate (length j) 0 ++ drop (length j) j) where
+    module _ (threes : in_threes? es v ≡ true) (same : length w' ≡ length w) {j₁ : List ℕ} (size : length j₁ ≡ length j) (clear : j₁ ≡ replicate (length j) 0) where
+      each : (length es % 3 ≡ 0) × (length v ≡ length es / 3)
+      each =
+          let t = both (eqb (length es % 3) 0) (eqb (length v) (length es / 3)) threes in
+          (eqb-true (length es % 3) 0 t.0, eqb-true (length v) (length es / 3) t.1)
+
       admits : Admitted points c l w
       admits = passed_admitted points c l w (sym d.answer ∙ z)
 
       pub starting : Starting (length points / 3) c l w' es v j₁
       starting = record {
         standing = standing-first admits same;
-        empty = clear ∙ ap (λ (x : List ℕ). replicate (length j) 0 ++ x) (drop-length j) ∙ append-nil (replicate (length j) 0) ∙ ap (λ (x : ℕ). replicate x 0) (sym size);
-        threes = omega arith;
+        empty = clear ∙ ap (λ (x : ℕ). replicate x 0) (sym size);
+        threes = omega (arith, each);
       }
 
       -- and has come to its end
@@ -168,12 +170,12 @@ module _ (points : List Float) (c l w es v j : List ℕ) where
             subst (λ (x : ℕ). drop x w₂ ≡ drop x w') q r.further ∙ ap (drop (words-needed points c)) cleared-words
             ∙ drop_at (replicate (words-needed points c) 0) (drop (words-needed points c) w) (words-needed points c) (length-replicate (words-needed points c) 0)
 
-        all-passed : edit_questions points c l w es v ≡ asked.Passed
-        all-passed = answer-is d z ∙ ap₂ (λ (s t : Bool). ask (s && t) 15 asked.Passed) (eq-eqb (length es % 3) 0 e) (eq-eqb (length v) (length es / 3) f)
+        all-passed : edit_questions points c l w es v ≡ Ok tt
+        all-passed = answer-is d z ∙ ap (λ (t : Bool). ask t Entries (Ok tt)) threes
 
-        pub edited : {w₃ : List ℕ} → Zeroed c' (length points / 3) w₂ w₃ → EditRun points c l w es v j c' l' w₃ v' j' (Edited n k)
+        pub edited : {w₃ : List ℕ} → Zeroed c' (length points / 3) w₂ w₃ → EditRun points c l w es v j c' l' w₃ v' j' (Ok (record { triangles = n; edits = k }))
         edited g = record {
-          answer = sym (ap (λ (q : Asked). answer_of q h) all-passed ∙ ap₂ Edited size_is holds.count);
+          answer = sym (ap (λ (q : Asked). answer_of q h) all-passed ∙ ap₂ accepted size_is holds.count);
           corners = corners-is;
           labels = labels_are;
           verdicts = r.words ∙ ap₂ (λ (x : ℕ) (p : Pair). verdicts (x / 12) (begun p) (entries es)) size (whole_pair c l (thirds admits));

@@ -1,9 +1,11 @@
 -- What the lists of a run hold between two entries, and what each function of the run does to the history that they hold. Definitions only.
-use Rattle.std.specs.Prelude.{ℕ, ◌+◌, ◌*◌, ◌-◌, ◌/◌, ◌≤◌, ◌≡◌, List, [], ◌∷◌, ◌++◌, length, take, drop, replicate}
+use Rattle.std.specs.Prelude.{Result, Ok, Err, ℕ, ◌+◌, ◌*◌, ◌-◌, ◌/◌, ◌≤◌, ◌≡◌, List, [], ◌∷◌, ◌++◌, length, take, drop, replicate}
 use Rattle.history.specs.History.{Pair, Entry, Made, last_of, History, last, in_force, verdict, next}
 use Rattle.history.specs.Lists.{records}
 use Rattle.history.specs.Flat.{pair_of}
 use Rattle.history.specs.Entry.{needed, Standing, Recorded}
+use Rattle.verdicts.specs.declared.Unfit.{Unfit}
+use Rattle.editing.specs.declared.Left.{Left}
 
 -- each edit in force was made of the pair before it, and its record says so
 pub data Chain (points size : ℕ) (p : Pair) : List Made → Type 0 where
@@ -39,9 +41,13 @@ pub record Entered (points : ℕ) (l ls w j : List ℕ) (n k : ℕ) (e : Entry) 
   pub holds : (h : History) → Holds points l ls w j n k h → Holds points l' ls' w' j' m i (next (length j / 12) h e)
   pub further : drop (needed ls points) w' ≡ drop (needed ls points) w
 
--- after a flip or collapse is noted in the journal, if it was accepted
-pub record Noted (j : List ℕ) (k word n : ℕ) (ws j' : List ℕ) (word' n' k' : ℕ) : Type 0 where
-  pub verdict : word' ≡ word
+-- after the record of an accepted flip or collapse is noted in the journal
+pub record Noted (j : List ℕ) (k n : ℕ) (ws j' : List ℕ) (n' k' : ℕ) : Type 0 where
   pub count : n' ≡ n
-  pub written : word ≡ 0 → (j' ≡ take (12 * k) j ++ ws ++ drop (12 * k + 12) j) × (k' ≡ k + 1)
-  pub kept : (word ≡ 0 → ⊥) → (j' ≡ j) × (k' ≡ k)
+  pub written : j' ≡ take (12 * k) j ++ ws ++ drop (12 * k + 12) j
+  pub edits : k' ≡ k + 1
+
+-- what an entry leaves: what it came to, or what was there
+abbrev pub left_after : Left → Result Left Unfit → Left
+left_after left (Ok next) = next
+left_after left (Err why) = left

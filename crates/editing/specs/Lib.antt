@@ -1,3 +1,4 @@
+pub mod Entry
 pub mod Held
 pub mod Run
 pub mod Edit

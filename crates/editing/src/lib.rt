@@ -1,121 +1,143 @@
 // Edit runs: the entries in order, the journal of the edits in force, and taking back.
 #![tactic(auto)]
 
-ghost use Rattle.std.specs.Prelude.{◌≡◌, ◌++◌, ◌+◌, ◌*◌, ◌/◌, ◌<◌, ◌≤◌, ltb, length, take, drop};
+ghost use Rattle.std.specs.Prelude.{◌≡◌, ◌++◌, ◌+◌, ◌*◌, ◌-◌, ◌/◌, ◌<◌, ◌≤◌, ltb, length, take, drop, get_or};
 ghost use Rattle.history.specs.Flat.{entry_of};
-ghost use Rattle.editing.specs.Held.{Held, Returned, Entered, Noted};
+ghost use Rattle.verdicts.specs.Verdict.{verdict_word};
+ghost use Rattle.verdicts.specs.Record.{words_of};
+ghost use Rattle.editing.specs.Entry.{Reads};
+ghost use Rattle.editing.specs.Held.{Held, Returned, Entered, Noted, left_after};
 ghost use Rattle.editing.specs.Run.{Starting, Ran};
-ghost use Rattle.editing.specs.Edit.{EditRun};
+ghost use Rattle.editing.specs.Edit.{in_threes?, EditRun};
 
 use entries::Came;
-use questions::{Asked, Refusal};
+use halfedges::wide;
+use questions::Refusal;
+use surface::Mesh;
+use verdicts::{COLLAPSE, FLIP, Record, Unfit};
 
-// The record at place k of the journal.
-fn read_record(journal: &[u32], k: usize) -> [u32; 12]
-    requires { 12 * k + 12 ≤ length journal.now }
-    ensures { result ≡ take 12 (drop (12 * k) journal.now) }
-{
-    let i = 12 * k;
-    [
-        journal[i],
-        journal[i + 1],
-        journal[i + 2],
-        journal[i + 3],
-        journal[i + 4],
-        journal[i + 5],
-        journal[i + 6],
-        journal[i + 7],
-        journal[i + 8],
-        journal[i + 9],
-        journal[i + 10],
-        journal[i + 11],
-    ]
+// An entry of a run.
+#[derive(Clone, Copy, Debug, PartialEq, Eq)]
+enum Entry {
+    Flip(u32, u32),
+    Collapse(u32, u32),
+    Back(u32),
 }
 
-// A record is put at place k of the journal.
+impl TryFrom<[u32; 3]> for Entry {
+    type Error = Unfit;
+
+    ghost try_from_gives = { Reads };
+
+    fn try_from(words: [u32; 3]) -> Result<Self, Unfit> {
+        match words {
+            [FLIP, a, b] => Ok(Entry::Flip(a, b)),
+            [COLLAPSE, a, b] => Ok(Entry::Collapse(a, b)),
+            [3, count, 0] => Ok(Entry::Back(count)),
+            _ => Err(Unfit::NoEntry),
+        }
+    }
+}
+
+// What an entry or a run leaves: the number of triangles, and of edits in force.
+#[derive(Clone, Copy, Debug, PartialEq, Eq)]
+pub struct Left {
+    pub triangles: usize,
+    pub edits: usize,
+}
+
+// The record at a place of the journal. (Word by word: by way of an array of twelve it is longer.)
+fn read_record(journal: &[u32], k: usize) -> Record
+    requires { 12 * k + 12 ≤ length journal.now }
+    ensures { words_of result ≡ take 12 (drop (12 * k) journal.now) }
+{
+    let i = 12 * k;
+    Record {
+        kind: journal[i],
+        a: journal[i + 1],
+        b: journal[i + 2],
+        c: journal[i + 3],
+        d: journal[i + 4],
+        earlier: journal[i + 5],
+        later: journal[i + 6],
+        start_earlier: journal[i + 7],
+        start_later: journal[i + 8],
+        label_earlier: journal[i + 9],
+        label_later: journal[i + 10],
+        ahead: journal[i + 11],
+    }
+}
+
+// The words of a record are put at a place of the journal.
 fn write_record(journal: &mut [u32], k: usize, words: [u32; 12])
     requires { 12 * k + 12 ≤ length journal.old }
     ensures { journal.new ≡ take (12 * k) journal.old ++ words ++ drop (12 * k + 12) journal.old }
 {
     let at = 12 * k;
-    let mut i: usize = 0;
-    while i < 12 {
-        journal[at + i] = words[i];
-        i += 1;
-    }
+    journal[at..at + 12].copy_from_slice(&words);
 }
 
-// The last edit in force is taken back, and its place in the journal becomes 0: the number of triangles then.
+// The last edit in force is taken back, and its place in the journal becomes 0: the number of triangles then. (The lists are lent one by one, here and below: a contract speaks of each before and after.)
 fn take_back_last(
     corners: &mut [u32],
     labels: &mut [u8],
     work: &mut [u32],
     points: usize,
-    n: usize,
     journal: &mut [u32],
-    k: usize,
+    left: Left,
 ) -> usize
-    requires held { Held points corners.old labels.old work.old journal.old n k }
-    requires k_nonzero { 0 < k }
-    ensures { Returned points corners.old labels.old work.old journal.old n k 1 corners.new labels.new work.new journal.new result }
+    requires held { Held points corners.old labels.old work.old journal.old left.triangles left.edits }
+    requires edits_nonzero { 0 < left.edits }
+    ensures { Returned points corners.old labels.old work.old journal.old left.triangles left.edits 1 corners.new labels.new work.new journal.new result }
 {
-    let words = read_record(journal, k - 1);
-    let m = entries::take_back(corners, labels, work, points, n, words);
-    write_record(journal, k - 1, [0; 12]);
-    m
+    let k = left.edits - 1;
+    let done = read_record(journal, k);
+    let triangles = entries::take_back(corners, labels, work, points, left.triangles, done);
+    write_record(journal, k, [0; 12]);
+    triangles
 }
 
-// The last a edits in force are taken back, the last one first: the number of triangles then.
+// The last edits in force are taken back, as many as count says, the last one first.
 fn take_back_many(
     corners: &mut [u32],
     labels: &mut [u8],
     work: &mut [u32],
     points: usize,
-    n: usize,
     journal: &mut [u32],
-    k: usize,
-    a: usize,
-) -> usize
-    requires held { Held points corners.old labels.old work.old journal.old n k }
-    requires a_le_k { a ≤ k }
-    ensures { Returned points corners.old labels.old work.old journal.old n k a corners.new labels.new work.new journal.new result }
+    left: Left,
+    count: usize,
+) -> Left
+    requires held { Held points corners.old labels.old work.old journal.old left.triangles left.edits }
+    requires count_le_edits { count ≤ left.edits }
+    ensures { (Returned points corners.old labels.old work.old journal.old left.triangles left.edits count corners.new labels.new work.new journal.new result.triangles) × (result.edits ≡ left.edits - count) }
 {
-    let mut m = n;
-    let mut i: usize = 0;
-    while i < a {
-        m = take_back_last(corners, labels, work, points, m, journal, k - i);
-        i += 1;
+    let mut triangles = left.triangles;
+    for i in 0..count {
+        let edits = left.edits - i;
+        triangles = take_back_last(
+            corners,
+            labels,
+            work,
+            points,
+            journal,
+            Left { triangles, edits },
+        );
     }
-    m
+    Left {
+        triangles,
+        edits: left.edits - count,
+    }
 }
 
-// What an entry came to: its verdict word, the number of triangles and of edits in force after it.
-#[derive(Clone, Copy)]
-struct Step {
-    verdict: u32,
-    n: usize,
-    k: usize,
-}
-
-// The record of an accepted flip or collapse goes into the journal.
-fn note(journal: &mut [u32], k: usize, came: Came) -> Step
-    requires { came.verdict ≡ 0 → 12 * k + 12 ≤ length journal.old }
-    ensures { Noted journal.old k came.verdict came.n came.words journal.new result.verdict result.n result.k }
+// The record of an accepted flip or collapse goes into the journal behind those of the edits in force.
+fn note(journal: &mut [u32], edits: usize, came: Came) -> Left
+    requires { 12 * edits + 12 ≤ length journal.old }
+    ensures { Noted journal.old edits came.triangles (words_of came.done) journal.new result.triangles result.edits }
 {
-    let verdict = came.verdict;
-    if verdict != 0 {
-        return Step {
-            verdict,
-            n: came.n,
-            k,
-        };
-    }
-    let words = came.words;
-    write_record(journal, k, words);
-    Step {
-        verdict,
-        n: came.n,
-        k: k + 1,
+    write_record(journal, edits, came.done.into());
+    Left {
+        triangles: came.triangles,
+        edits: edits + 1,
     }
 }
 
@@ -126,107 +148,82 @@ fn has_place(journal: &[u32], k: usize) -> bool
     k < journal.len() / 12
 }
 
-// An entry of kind 1.
+// The flip of the side of a and b.
 fn flip(
     corners: &mut [u32],
     labels: &[u8],
-    work: &mut [u32],
+    work: &[u32],
     points: usize,
-    n: usize,
     journal: &mut [u32],
-    k: usize,
+    left: Left,
     a: u32,
     b: u32,
-) -> Step
-    requires { Held points corners.old labels.now work.old journal.old n k }
-    ensures { Entered points corners.old labels.now work.old journal.old n k (entry_of 1 a b) corners.new labels.now work.new journal.new result.n result.k result.verdict }
+) -> Result<Left, Unfit>
+    requires { Held points corners.old labels.now work.now journal.old left.triangles left.edits }
+    ensures { Entered points corners.old labels.now work.now journal.old left.triangles left.edits (entry_of 1 a b) corners.new labels.now work.now journal.new (left_after left result).triangles (left_after left result).edits (verdict_word result) }
 {
-    let space = has_place(journal, k);
-    let came = entries::flip_entry(corners, labels, work, points, n, a, b, space);
-    note(journal, k, came)
+    let space = has_place(journal, left.edits);
+    let came = entries::flip_entry(corners, labels, work, points, left.triangles, a, b, space)?;
+    Ok(note(journal, left.edits, came))
 }
 
-// An entry of kind 2.
+// The collapse that keeps a and removes b.
 fn collapse(
     corners: &mut [u32],
     labels: &mut [u8],
     work: &mut [u32],
     points: usize,
-    n: usize,
     journal: &mut [u32],
-    k: usize,
+    left: Left,
     a: u32,
     b: u32,
-) -> Step
-    requires { Held points corners.old labels.old work.old journal.old n k }
-    ensures { Entered points corners.old labels.old work.old journal.old n k (entry_of 2 a b) corners.new labels.new work.new journal.new result.n result.k result.verdict }
+) -> Result<Left, Unfit>
+    requires { Held points corners.old labels.old work.old journal.old left.triangles left.edits }
+    ensures { Entered points corners.old labels.old work.old journal.old left.triangles left.edits (entry_of 2 a b) corners.new labels.new work.new journal.new (left_after left result).triangles (left_after left result).edits (verdict_word result) }
 {
-    let space = has_place(journal, k);
-    let came = entries::collapse_entry(corners, labels, work, points, n, a, b, space);
-    note(journal, k, came)
+    let space = has_place(journal, left.edits);
+    let came = entries::collapse_entry(corners, labels, work, points, left.triangles, a, b, space)?;
+    Ok(note(journal, left.edits, came))
 }
 
-// An entry of kind 3 with b 0.
+// The last edits in force taken back, as many as the entry says.
 fn back(
     corners: &mut [u32],
     labels: &mut [u8],
     work: &mut [u32],
     points: usize,
-    n: usize,
     journal: &mut [u32],
-    k: usize,
+    left: Left,
     a: u32,
-) -> Step
-    requires { Held points corners.old labels.old work.old journal.old n k }
-    ensures { Entered points corners.old labels.old work.old journal.old n k (entry_of 3 a 0) corners.new labels.new work.new journal.new result.n result.k result.verdict }
+) -> Result<Left, Unfit>
+    requires { Held points corners.old labels.old work.old journal.old left.triangles left.edits }
+    ensures { Entered points corners.old labels.old work.old journal.old left.triangles left.edits (entry_of 3 a 0) corners.new labels.new work.new journal.new (left_after left result).triangles (left_after left result).edits (verdict_word result) }
 {
-    let count = a as usize;
-    if k < count {
-        return Step { verdict: 26, n, k };
+    let count = wide(a);
+    if left.edits < count {
+        return Err(Unfit::TooMany);
     }
-    let m = take_back_many(corners, labels, work, points, n, journal, k, count);
-    Step {
-        verdict: 0,
-        n: m,
-        k: k - count,
-    }
+    Ok(take_back_many(corners, labels, work, points, journal, left, count))
 }
 
-// An entry: kind, a, b.
-fn entry(
+// An entry by its words: kind, a, b.
+fn enter(
     corners: &mut [u32],
     labels: &mut [u8],
     work: &mut [u32],
     points: usize,
-    n: usize,
     journal: &mut [u32],
-    k: usize,
-    kind: u32,
-    a: u32,
-    b: u32,
-) -> Step
-    requires { Held points corners.old labels.old work.old journal.old n k }
-    ensures { Entered points corners.old labels.old work.old journal.old n k (entry_of kind a b) corners.new labels.new work.new journal.new result.n result.k result.verdict }
+    left: Left,
+    words: [u32; 3],
+) -> Result<Left, Unfit>
+    requires { Held points corners.old labels.old work.old journal.old left.triangles left.edits }
+    ensures { Entered points corners.old labels.old work.old journal.old left.triangles left.edits (entry_of (get_or words 0 0) (get_or words 1 0) (get_or words 2 0)) corners.new labels.new work.new journal.new (left_after left result).triangles (left_after left result).edits (verdict_word result) }
 {
-    if kind == 1 {
-        return flip(corners, labels, work, points, n, journal, k, a, b);
+    match Entry::try_from(words)? {
+        Entry::Flip(a, b) => flip(corners, labels, work, points, journal, left, a, b),
+        Entry::Collapse(a, b) => collapse(corners, labels, work, points, journal, left, a, b),
+        Entry::Back(count) => back(corners, labels, work, points, journal, left, count),
     }
-    if kind == 2 {
-        return collapse(corners, labels, work, points, n, journal, k, a, b);
-    }
-    if kind == 3 {
-        if b == 0 {
-            return back(corners, labels, work, points, n, journal, k, a);
-        }
-    }
-    Step { verdict: 21, n, k }
-}
-
-// What a run leaves: the number of triangles and of edits in force.
-#[derive(Clone, Copy)]
-struct Left {
-    n: usize,
-    k: usize,
 }
 
 // Every entry in order, each on what the one before left.
@@ -240,30 +237,31 @@ fn run(
     journal: &mut [u32],
 ) -> Left
     requires { Starting points corners.old labels.old work.old entries.now verdicts.old journal.old }
-    ensures { Ran points corners.old labels.old work.old entries.now journal.old corners.new labels.new work.new verdicts.new journal.new result.n result.k }
+    ensures { Ran points corners.old labels.old work.old entries.now journal.old corners.new labels.new work.new verdicts.new journal.new result.triangles result.edits }
 {
-    let mut n = labels.len();
-    let mut k: usize = 0;
-    let mut i: usize = 0;
-    while i < verdicts.len() {
+    let mut left = Left {
+        triangles: labels.len(),
+        edits: 0,
+    };
+    for i in 0..verdicts.len() {
         let at = 3 * i;
-        let kind = entries[at];
-        let a = entries[at + 1];
-        let b = entries[at + 2];
-        let step = entry(corners, labels, work, points, n, journal, k, kind, a, b);
-        verdicts[i] = step.verdict;
-        n = step.n;
-        k = step.k;
-        i += 1;
+        let words = [entries[at], entries[at + 1], entries[at + 2]];
+        match enter(corners, labels, work, points, journal, left, words) {
+            Ok(next) => {
+                verdicts[i] = 0;
+                left = next;
+            }
+            Err(why) => verdicts[i] = why.word(),
+        }
     }
-    Left { n, k }
+    left
 }
 
-// The answer of an edit run: triangles left and edits in force, or why the call is refused.
-#[derive(Clone, Copy)]
-pub enum Outcome {
-    Edited(usize, usize),
-    Refused(Refusal),
+// The entries have three words each, and a verdict word each.
+fn in_threes(entries: &[u32], verdicts: &[u32]) -> bool
+    ensures { result ≡ in_threes? entries.now verdicts.now }
+{
+    entries.len() % 3 == 0 && verdicts.len() == entries.len() / 3
 }
 
 // An edit run: entries of three words each (kind, a, b), a verdict word for each, and the journal of the edits in force.
@@ -275,22 +273,23 @@ pub fn edit(
     entries: &[u32],
     verdicts: &mut [u32],
     journal: &mut [u32],
-) -> Outcome
+) -> Result<Left, Refusal>
     ensures { EditRun points.now corners.old labels.old work.old entries.now verdicts.old journal.old corners.new labels.new work.new verdicts.new journal.new result }
 {
-    if let Asked::Refused(why) = questions::admitted(points, corners, labels, work) {
-        return Outcome::Refused(why);
+    questions::admitted(
+        &Mesh {
+            points,
+            corners,
+            labels,
+        },
+        work,
+    )?;
+    if !in_threes(entries, verdicts) {
+        return Err(Refusal::Entries);
     }
-    if entries.len() % 3 != 0 {
-        return Outcome::Refused(Refusal::Question(15));
-    }
-    if verdicts.len() != entries.len() / 3 {
-        return Outcome::Refused(Refusal::Question(15));
-    }
-    let size = journal.len();
-    closing::clear(journal, size);
+    journal.fill(0);
     let count = points.len() / 3;
     let left = run(corners, labels, work, count, entries, verdicts, journal);
     closing::clear_needed(corners, count, work);
-    Outcome::Edited(left.n, left.k)
+    Ok(left)
 }

@@ -1,7 +1,7 @@
 -- What an entry came to, from its parts.
 use Prim.Native.Nat.{ℕ, ◌+◌, ◌*◌, ◌-◌, ◌≤◌, ◌<◌}
 use mathlib.Core.Path.{◌≡◌, refl, sym, ◌∙◌, ap, subst}
-use mathlib.Core.Bool.{Bool, true, false, cond}
+use mathlib.Core.Bool.{Bool, true, cond}
 use mathlib.Core.List.{List, ◌++◌}
 use native.Mathlib.Omega.{arith}
 use lib.Dec.{eqb}
@@ -19,10 +19,12 @@ use Rattle.history.specs.Local.{flip_word, collapse_word, edit_word}
 use Rattle.history.specs.Entry.{needed, Good, Standing, Edited}
 use Rattle.history.proofs.Verdict.{first-has}
 use Rattle.history.proofs.Entry.{edit-good}
-use Rattle.verdicts.specs.Found.{hinge_of, Ready, SideAt, Hung, Labelled}
+use Rattle.verdicts.specs.Found.{hinge_of, Ready, Hung, Labelled}
 use Rattle.verdicts.specs.Notes.{Listed}
+use Rattle.verdicts.specs.Verdict.{unfit_word}
+use Rattle.verdicts.specs.declared.Unfit.{Unfit}
+use Rattle.verdicts.specs.declared.Unfit.TheVariants.{NoEntry, NoSide, LabelsDiffer, LabelLost, NotClosed, TooMany, JournalFull}
 use Rattle.verdicts.specs.declared.Found.{Found}
-use Rattle.verdicts.proofs.Scan.{first-most}
 use Rattle.entries.specs.Moved.{Zero}
 use Rattle.entries.proofs.Moved.{drop-zero, zero-drop}
 
@@ -48,20 +50,14 @@ module _ {l ls : List ℕ} {n points : ℕ} {w : List ℕ} (s : Standing l ls n 
   pub words-fit : points + points ≤ length w
   words-fit = omega (arith, s.work)
 
-  module _ (a b q : ℕ) (e : q ≡ 0 + first a b (drop 0 (held l n))) where
-    pub side-at : (q ≡ n → ⊥) → SideAt l n q a b
-    side-at m = record { ready = ready; is = omega arith; fits = let k = length-held l n fits in omega (arith, first-most a b (held l n)) }
+  module _ (a b : ℕ) (m : first a b (held l n) < n) where
+    pub side-there : exists (pair_of l ls n) a b ≡ true
+    side-there = let k = length-held l n fits in lt-ltb (first a b (held l n)) (length (held l n)) (omega arith)
 
-    pub side-there : (q ≡ n → ⊥) → exists (pair_of l ls n) a b ≡ true
-    side-there m = let k = length-held l n fits in lt-ltb (first a b (held l n)) (length (held l n)) (omega (arith, first-most a b (held l n)))
-
-    pub side-none : q ≡ n → exists (pair_of l ls n) a b ≡ false
-    side-none m = let k = length-held l n fits in le-ltb (first a b (held l n)) (length (held l n)) (omega arith)
-
-    pub hung : (q ≡ n → ⊥) → (f : Found) → hinge_of f ≡ hinge (held l n) a b → Hung l ls n a b f
-    hung m f i =
+    pub hung : (f : Found) → hinge_of f ≡ hinge (held l n) a b → Hung l ls n a b f
+    hung f i =
         let k = length-held l n fits in
-        let c : first a b (held l n) < length (held l n) = omega (arith, first-most a b (held l n)) in
+        let c : first a b (held l n) < length (held l n) = omega arith in
         let h = hinge-found s.good.sound.closed a b (side-exists s.good.sound.closed a b (first a b (held l n)) c (first-has a b (held l n) c)) in
         let u = ap (λ (g : Hinge). g.p1) i in
         let v = ap (λ (g : Hinge). g.p2) i in
@@ -105,18 +101,6 @@ module _ {l ls : List ℕ} {n points : ℕ} {w : List ℕ} (s : Standing l ls n 
 
   -- the entry is refused, or done
   module _ (e : Entry) (space : Bool) (w' : List ℕ) (ew : length w' ≡ length w) (far : drop (needed ls points) w' ≡ drop (needed ls points) w) where
-    pub edited-none : exists (pair_of l ls n) e.a e.b ≡ false → Edited points l ls n w e space l ls n w' 22 (replicate 12 0)
-    edited-none f = record {
-      verdict = rw f;
-      accepted = λ z. absurd (omega arith);
-      changed = λ z. absurd (omega arith);
-      written = λ z. absurd (omega arith);
-      kept = λ z. (refl, refl, refl, refl);
-      standing = standing-words w' ew;
-      lengths = (refl, refl, ew);
-      further = far;
-    }
-
     module _ (there : exists (pair_of l ls n) e.a e.b ≡ true) (word : ℕ)
         (eq : word ≡ cond (eqb e.kind 1) (flip_word (pair_of l ls n) e.a e.b space) (collapse_word (pair_of l ls n) e.a e.b space)) where
       word-is : word ≡ edit_word (pair_of l ls n) e space
@@ -151,6 +135,19 @@ module _ {l ls : List ℕ} {n points : ℕ} {w : List ℕ} (s : Standing l ls n 
             further = far;
           }
 
+    -- no triangle has the side
+    pub edited-none : first e.a e.b (held l n) ≡ n → Edited points l ls n w e space l ls n w' 22 (replicate 12 0)
+    edited-none f = record {
+      verdict = let k = length-held l n fits in rw (le-ltb (first e.a e.b (held l n)) (length (held l n)) (omega arith));
+      accepted = λ z. absurd (omega arith);
+      changed = λ z. absurd (omega arith);
+      written = λ z. absurd (omega arith);
+      kept = λ z. (refl, refl, refl, refl);
+      standing = standing-words w' ew;
+      lengths = (refl, refl, ew);
+      further = far;
+    }
+
   pub zero-corners : Zero (3 * n) l
   zero-corners = drop-zero (3 * n) l s.freed
 
@@ -172,3 +169,13 @@ needed-most ls points = omega arith
 
 pub listed-front : {l : List ℕ} {n points : ℕ} → Listed l n points → (w : List ℕ) → points ≤ length w → Listed l n (length (take points w))
 listed-front {l} {n} {points} s w p = subst (λ (k : ℕ). Listed l n k) (sym (length-take-le points w p)) s
+
+-- the word of a refused entry
+pub refused : (why : Unfit) → unfit_word why ≡ 0 → ⊥
+refused NoEntry e = omega arith
+refused NoSide e = omega arith
+refused LabelsDiffer e = omega arith
+refused LabelLost e = omega arith
+refused NotClosed e = omega arith
+refused TooMany e = omega arith
+refused JournalFull e = omega arith

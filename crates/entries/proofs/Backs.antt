@@ -24,7 +24,7 @@ use Rattle.history.proofs.Entry.{recorded-undone}
 use Rattle.verdicts.specs.Notes.{Listed, On}
 use Rattle.verdicts.proofs.Notes.{listed-on}
 use Rattle.entries.specs.Moved.{Zero, Backward}
-use Rattle.entries.specs.Marks.{Marked, Routed, restored_by, Mapped}
+use Rattle.entries.specs.Marks.{Marked, restored_by, Mapped}
 use Rattle.entries.specs.Undoes.{first_of, second_of, walk_from, walk_to, Unflips, Uncollapses, Restored}
 use Rattle.entries.proofs.Moved.{backward_zero, drop-same-zero, inserted-held, inserted-take}
 use Rattle.entries.proofs.Edits.{two-put}
@@ -63,8 +63,8 @@ restored-held {l} {l1} {n} {points} s a b w ws m g =
 module _ {l ls : List ℕ} {n points : ℕ} {ws : List ℕ} (u : Uncollapses l ls n ws) (s : Listed l n points) (w : List ℕ) {l1 l2 l3 ls1 ls2 : List ℕ}
     (m : Marked points w (walk (length (around (held l n) (get_or ws 1 0))) (walk_from ws) (walk_to ws) (around (held l n) (get_or ws 1 0))))
     (g : Mapped (restored_by points w (get_or ws 1 0) (get_or ws 2 0)) n l l1)
-    (b1 : Backward (3 * get_or ws 5 0) 3 l1 l2) (t1 : tri_at l2 (get_or ws 5 0) ≡ first_of ws) (b2 : Backward (3 * get_or ws 6 0) 3 l2 l3) (t2 : tri_at l3 (get_or ws 6 0) ≡ second_of ws)
-    (c1 : Backward (get_or ws 5 0) 1 ls ls1) (x1 : get_or ls1 (get_or ws 5 0) 0 ≡ get_or ws 9 0) (c2 : Backward (get_or ws 6 0) 1 ls1 ls2) (x2 : get_or ls2 (get_or ws 6 0) 0 ≡ get_or ws 10 0) where
+    (b1 : Backward 0 (3 * get_or ws 5 0) 3 l1 l2) (t1 : tri_at l2 (get_or ws 5 0) ≡ first_of ws) (b2 : Backward 0 (3 * get_or ws 6 0) 3 l2 l3) (t2 : tri_at l3 (get_or ws 6 0) ≡ second_of ws)
+    (c1 : Backward 0 (get_or ws 5 0) 1 ls ls1) (x1 : get_or ls1 (get_or ws 5 0) 0 ≡ get_or ws 9 0) (c2 : Backward 0 (get_or ws 6 0) 1 ls1 ls2) (x2 : get_or ls2 (get_or ws 6 0) 0 ≡ get_or ws 10 0) where
   abbrev path : List ℕ
   path = walk (length (around (held l n) (get_or ws 1 0))) (walk_from ws) (walk_to ws) (around (held l n) (get_or ws 1 0))
 
@@ -187,15 +187,12 @@ module _ {l ls : List ℕ} {n points : ℕ} {w ws : List ℕ} (s : Standing l ls
 pub uncollapse_by : {l ls : List ℕ} {n points : ℕ} {ws : List ℕ} → Uncollapses l ls n ws → Listed l n points → (w : List ℕ) {l1 l2 l3 ls1 ls2 : List ℕ} (x y i j : ℕ) (t s : Tri)
     → x ≡ walk_from ws → y ≡ walk_to ws → i ≡ get_or ws 5 0 → j ≡ get_or ws 6 0 → t ≡ first_of ws → s ≡ second_of ws
     → Marked points w (walk (length (around (held l n) (get_or ws 1 0))) x y (around (held l n) (get_or ws 1 0))) → Mapped (restored_by points w (get_or ws 1 0) (get_or ws 2 0)) n l l1
-    → (Backward (3 * i) 3 l1 l2) × (tri_at l2 i ≡ t) → (Backward (3 * j) 3 l2 l3) × (tri_at l3 j ≡ s)
-    → (Backward i 1 ls ls1) × (get_or ls1 i 0 ≡ get_or ws 9 0) → (Backward j 1 ls1 ls2) × (get_or ls2 j 0 ≡ get_or ws 10 0) → Restored l ls n ws l3 ls2 (n + 2)
+    → (Backward 0 (3 * i) 3 l1 l2) × (tri_at l2 i ≡ t) → (Backward 0 (3 * j) 3 l2 l3) × (tri_at l3 j ≡ s)
+    → (Backward 0 i 1 ls ls1) × (get_or ls1 i 0 ≡ get_or ws 9 0) → (Backward 0 j 1 ls1 ls2) × (get_or ls2 j 0 ≡ get_or ws 10 0) → Restored l ls n ws l3 ls2 (n + 2)
 uncollapse_by {l} {ls} {n} {points} {ws} u g w {l1} {l2} {l3} {ls1} {ls2} x y i j t s ex ey ei ej et es m p b1 b2 c1 c2 =
     uncollapse_made u g w
     (subst₂ (λ (a b : ℕ). Marked points w (walk (length (around (held l n) (get_or ws 1 0))) a b (around (held l n) (get_or ws 1 0)))) ex ey m) p
-    (subst (λ (k : ℕ). Backward (3 * k) 3 l1 l2) ei b1.0) (sym (ap (tri_at l2) ei) ∙ b1.1 ∙ et)
-    (subst (λ (k : ℕ). Backward (3 * k) 3 l2 l3) ej b2.0) (sym (ap (tri_at l3) ej) ∙ b2.1 ∙ es)
-    (subst (λ (k : ℕ). Backward k 1 ls ls1) ei c1.0) (sym (ap (λ (k : ℕ). get_or ls1 k 0) ei) ∙ c1.1)
-    (subst (λ (k : ℕ). Backward k 1 ls1 ls2) ej c2.0) (sym (ap (λ (k : ℕ). get_or ls2 k 0) ej) ∙ c2.1)
-
-pub routed_by : {l ls : List ℕ} {n : ℕ} {ws : List ℕ} → Uncollapses l ls n ws → (x y : ℕ) → x ≡ walk_from ws → y ≡ walk_to ws → Routed (held l n) (get_or ws 1 0) x y
-routed_by {l} {ls} {n} {ws} u x y ex ey = subst₂ (λ (a b : ℕ). Routed (held l n) (get_or ws 1 0) a b) (sym ex) (sym ey) (record { removed = get_or ws 2 0; route = u.route })
+    (subst (λ (k : ℕ). Backward 0 (3 * k) 3 l1 l2) ei b1.0) (sym (ap (tri_at l2) ei) ∙ b1.1 ∙ et)
+    (subst (λ (k : ℕ). Backward 0 (3 * k) 3 l2 l3) ej b2.0) (sym (ap (tri_at l3) ej) ∙ b2.1 ∙ es)
+    (subst (λ (k : ℕ). Backward 0 k 1 ls ls1) ei c1.0) (sym (ap (λ (k : ℕ). get_or ls1 k 0) ei) ∙ c1.1)
+    (subst (λ (k : ℕ). Backward 0 k 1 ls1 ls2) ej c2.0) (sym (ap (λ (k : ℕ). get_or ls2 k 0) ej) ∙ c2.1)

@@ -26,8 +26,8 @@ pub two-rest : (l : List ℕ) {n p q : ℕ} (t s : Tri) (r : List ℕ) → p < n
 two-rest l {n} {p} {q} t s r b c e = ap (drop (3 * n)) e ∙ drop-put (put_at l p t) q s (3 * n) (omega arith) ∙ drop-put l p t (3 * n) (omega arith)
 
 -- with the hinge's corners, that is the flip
-module _ {l ls : List ℕ} {n a b : ℕ} (f : Found) (h : Hung l ls n a b f) (r : List ℕ) (e : r ≡ put_at (put_at l f.p1 (tri f.c f.d f.v)) f.p2 (tri f.d f.c f.u)) where
-  first_in : f.p1 < n
+module _ {l ls : List ℕ} {n a b : ℕ} (f : Found) (h : Hung l ls n a b f) (r : List ℕ) (e : r ≡ put_at (put_at l f.earlier (tri f.c f.d f.v)) f.later (tri f.d f.c f.u)) where
+  first_in : f.earlier < n
   first_in = omega (arith, h.places.order, h.places.fits)
 
   pub flip-made : pair_of r ls n ≡ made (pair_of l ls n) (entry_of 1 a b)
@@ -48,23 +48,23 @@ map_out f zero (t ∷ ts) = refl
 map_out f (suc i) (t ∷ ts) = ap (λ (k : List Tri). f t ∷ k) (map_out f i ts)
 
 module _ {l ls : List ℕ} {n a b : ℕ} (f : Found) (h : Hung l ls n a b f) {l1 l2 ls1 : List ℕ} (m1 : Mapped (renamed a b) n l l1)
-    (m2 : TakenOut (3 * f.p1) (3 * f.p2) 3 l1 l2) (n1 : TakenOut f.p1 f.p2 1 ls ls1) where
-  order : f.p1 < f.p2
+    (m2 : TakenOut (3 * f.earlier) (3 * f.later) 3 l1 l2) (n1 : TakenOut f.earlier f.later 1 ls ls1) where
+  order : f.earlier < f.later
   order = h.places.order
 
-  fits : f.p2 < n
+  fits : f.later < n
   fits = h.places.fits
 
   count : n - 2 + 2 ≡ n
   count = omega (arith, order, fits)
 
-  tris-made : held l2 (n - 2) ≡ map (renamed a b) (without f.p1 (without f.p2 (held l n)))
+  tris-made : held l2 (n - 2) ≡ map (renamed a b) (without f.earlier (without f.later (held l n)))
   tris-made =
-      taken_out_held l1 l2 n (n - 2) f.p1 f.p2 count (omega (arith, h.ready.room, m1.size)) order fits m2 ∙ ap (λ (k : List Tri). without f.p1 (without f.p2 k)) m1.is
-      ∙ sym (map_out (renamed a b) f.p1 (without f.p2 (held l n)) ∙ ap (without f.p1) (map_out (renamed a b) f.p2 (held l n)))
+      taken_out_held l1 l2 n (n - 2) f.earlier f.later count (omega (arith, h.ready.room, m1.size)) order fits m2 ∙ ap (λ (k : List Tri). without f.earlier (without f.later k)) m1.is
+      ∙ sym (map_out (renamed a b) f.earlier (without f.later (held l n)) ∙ ap (without f.earlier) (map_out (renamed a b) f.later (held l n)))
 
-  labels-made : take (n - 2) ls1 ≡ without f.p1 (without f.p2 (take n ls))
-  labels-made = taken_out_take ls ls1 n (n - 2) f.p1 f.p2 count h.labels order fits n1
+  labels-made : take (n - 2) ls1 ≡ without f.earlier (without f.later (take n ls))
+  labels-made = taken_out_take ls ls1 n (n - 2) f.earlier f.later count h.labels order fits n1
 
   pub collapse-made : Reduced l ls n a b l2 ls1 (n - 2)
   unfolding collapse

@@ -12,46 +12,67 @@ use Rattle.surface.specs.Edit.{place}
 use Rattle.surface.specs.Flat.{held, tri_at, put_at}
 use Rattle.surface.proofs.Held.{length-held, place-held, set-held, length-put}
 use Rattle.history.specs.Undo.{inserted}
-use Rattle.verdicts.proofs.Notes.{cleared}
 use Rattle.entries.specs.Moved.{Zero, Forward, Backward}
 use Rattle.entries.proofs.Mapped.{tri_path}
-use Rattle.entries.proofs.Turns.{Turning}
+use Rattle.entries.proofs.Turns.{Turning, turning_on}
 
--- the words move forward, one at each turn
-abbrev pub Shifting : ℕ → ℕ → List ℕ → List ℕ → Type 0
-Shifting by i l cur = Turning (λ (j : ℕ). get_or l (j + by) 0) i l cur
+-- an element of the list, whatever stands for those that are not there
+in_place : {A : Type 0} (l : List A) (j : ℕ) (d e : A) → j < length l → get_or l j d ≡ get_or l j e
+in_place [] j d e p = absurd (omega arith)
+in_place (x ∷ l) zero d e p = refl
+in_place (x ∷ l) (suc j) d e p = in_place l j d e (omega arith)
 
--- the words move back, one at each turn from the end
-pub record Sinking (by i : ℕ) (l cur : List ℕ) : Type 0 where
+-- the elements move forward, one at each turn
+abbrev pub Shifting : {A : Type 0} → A → ℕ → ℕ → List A → List A → Type 0
+Shifting d by i l cur = Turning d (λ (j : ℕ). get_or l (j + by) d) i l cur
+
+module _ {A : Type 0} {d : A} (by : ℕ) {i : ℕ} {l cur : List A} (s : Shifting d by i l cur) where
+  -- one that follows is read
+  pub shifting_on : (v : A) → v ≡ get_or cur (i + by) v → i + by < length l → Shifting d by (i + 1) l (set cur i v)
+  shifting_on v e f = turning_on s (omega arith) v (e ∙ in_place cur (i + by) v d (omega (arith, s.size)) ∙ s.left (i + by) (omega arith))
+
+  -- or none follows
+  pub shifting_off : length l ≤ i + by → i < length l → Shifting d by (i + 1) l (set cur i d)
+  shifting_off f q = turning_on s q d (sym (get_or-eq_default l d f))
+
+  pub shifting_end : length l ≤ i → Forward d 0 by l cur
+  shifting_end q = record { size = s.size; before = λ j p. absurd (omega arith); moved = λ j p. pick j (dec_lt j i) }
+    where
+      pick : (j : ℕ) → Dec (j < i) → get_or cur j d ≡ get_or l (j + by) d
+      pick j (yes p) = s.done j p
+      pick j (no p) = s.left j (omega (arith, p)) ∙ get_or-eq_default l d (omega (arith, p)) ∙ sym (get_or-eq_default l d (omega (arith, p)))
+
+-- the elements move back, one at each turn from the end
+pub record Sinking {A : Type 0} (by i : ℕ) (l cur : List A) : Type 0 where
   pub size : length cur ≡ length l
   pub low : by ≤ i
   pub high : i ≤ length l
-  pub front : (j : ℕ) → j < i → get_or cur j 0 ≡ get_or l j 0
-  pub back : (j : ℕ) → i ≤ j + by → j + by < length l → get_or cur (j + by) 0 ≡ get_or l j 0
+  pub front : (d : A) (j : ℕ) → j < i → get_or cur j d ≡ get_or l j d
+  pub back : (d : A) (j : ℕ) → i ≤ j + by → j + by < length l → get_or cur (j + by) d ≡ get_or l j d
 
-pub sinking_start : (by : ℕ) (l : List ℕ) → by ≤ length l → Sinking by (length l) l l
-sinking_start by l p = record { size = refl; low = p; high = omega arith; front = λ j q. refl; back = λ j q r. absurd (omega arith) }
+pub sinking_start : {A : Type 0} (by : ℕ) (l : List A) → by ≤ length l → Sinking by (length l) l l
+sinking_start by l p = record { size = refl; low = p; high = omega arith; front = λ d j q. refl; back = λ d j q r. absurd (omega arith) }
 
-pub sinking_on : {by i : ℕ} {l cur : List ℕ} → Sinking by i l cur → by < i → 0 < by → (v : ℕ) → v ≡ get_or cur (i - 1 - by) 0 → Sinking by (i - 1) l (set cur (i - 1) v)
-sinking_on {by} {i} {l} {cur} s f g v e = record {
+pub sinking_on : {A : Type 0} {by i : ℕ} {l cur : List A} → Sinking by i l cur → by < i → 0 < by → (v : A) → v ≡ get_or cur (i - 1 - by) v → Sinking by (i - 1) l (set cur (i - 1) v)
+sinking_on {A} {by} {i} {l} {cur} s f g v e = record {
   size = length-set cur (i - 1) v ∙ s.size;
   low = omega arith;
   high = let h = s.high in omega arith;
-  front = λ j p. let q : j ≢ i - 1 = λ z. omega arith in get_or-set_other cur (i - 1) j v 0 q ∙ s.front j (omega arith);
-  back = λ j p r. back j p r (ℕ_discrete (j + by) (i - 1));
+  front = λ d j p. let q : j ≢ i - 1 = λ z. omega arith in get_or-set_other cur (i - 1) j v d q ∙ s.front d j (omega arith);
+  back = λ d j p r. back d j p r (ℕ_discrete (j + by) (i - 1));
 }
   where
     fits : i - 1 < length cur
     fits = let h = s.high in let z = s.size in omega arith
 
-    back : (j : ℕ) → i - 1 ≤ j + by → j + by < length l → Dec (j + by ≡ i - 1) → get_or (set cur (i - 1) v) (j + by) 0 ≡ get_or l j 0
-    back j p r (yes q) =
+    back : (d : A) (j : ℕ) → i - 1 ≤ j + by → j + by < length l → Dec (j + by ≡ i - 1) → get_or (set cur (i - 1) v) (j + by) d ≡ get_or l j d
+    back d j p r (yes q) =
         let h : i - 1 - by ≡ j = omega arith in
-        rw q (get_or-set_same cur (i - 1) v 0 fits ∙ e ∙ ap (λ (k : ℕ). get_or cur k 0) h ∙ s.front j (omega arith))
-    back j p r (no q) = get_or-set_other cur (i - 1) (j + by) v 0 q ∙ s.back j (omega (arith, q)) r
+        rw q (get_or-set_same cur (i - 1) v d fits ∙ e ∙ in_place cur (i - 1 - by) v d (omega (arith, fits)) ∙ ap (λ (k : ℕ). get_or cur k d) h ∙ s.front d j (omega arith))
+    back d j p r (no q) = get_or-set_other cur (i - 1) (j + by) v d q ∙ s.back d j (omega (arith, q)) r
 
-pub sinking_end : {by i : ℕ} {l cur : List ℕ} → Sinking by i l cur → i ≤ by → Backward 0 by l cur
-sinking_end {by} {i} {l} {cur} s f = record { size = s.size; before = λ j p. absurd (omega arith); moved = λ j p r. s.back j (omega arith) r }
+pub sinking_end : {A : Type 0} {by i : ℕ} {l cur : List A} → Sinking by i l cur → i ≤ by → (d : A) → Backward d 0 by l cur
+sinking_end {A} {by} {i} {l} {cur} s f d = record { size = s.size; before = λ j p. absurd (omega arith); moved = λ j p r. s.back d j (omega arith) r }
 
 -- a part that was moved, in the whole list
 module _ (q : ℕ) (l part' l' : List ℕ) (f : q ≤ length l) (e : l' ≡ take q l ++ part') where
@@ -67,7 +88,7 @@ module _ (q : ℕ) (l part' l' : List ℕ) (f : q ≤ length l) (e : l' ≡ take
   pub whole-size : length part' ≡ length (drop q l) → length l' ≡ length l
   whole-size g = omega (arith, ap length e, length-append (take q l) part', front, length-drop q l)
 
-  forward_whole : {by : ℕ} → Forward 0 by (drop q l) part' → Forward q by l l'
+  forward_whole : {by : ℕ} → Forward 0 0 by (drop q l) part' → Forward 0 q by l l'
   forward_whole {by} s = record {
     size = whole-size s.size;
     before = at_front;
@@ -77,7 +98,7 @@ module _ (q : ℕ) (l part' l' : List ℕ) (f : q ≤ length l) (e : l' ≡ take
         sym (ap (λ (k : ℕ). get_or l' k 0) h) ∙ at_part (j - q) ∙ s.moved (j - q) (omega arith) ∙ get_or-drop q l (j - q + by) 0 ∙ ap (λ (k : ℕ). get_or l k 0) g;
   }
 
-  backward_whole : {by : ℕ} → Backward 0 by (drop q l) part' → Backward q by l l'
+  backward_whole : {by : ℕ} → Backward 0 0 by (drop q l) part' → Backward 0 q by l l'
   backward_whole {by} s = record {
     size = whole-size s.size;
     before = at_front;
@@ -105,73 +126,43 @@ module _ (q : ℕ) (l part' : List ℕ) (f : q ≤ length l) where
       append_nil [] = refl
       append_nil (y ∷ m) = ap (λ (n : List ℕ). y ∷ n) (append_nil m)
 
-  pub forward_lent : {by : ℕ} → Forward 0 by lent part' → Forward q by l whole
-  forward_lent {by} s = forward_whole q l part' whole f whole_is (subst (λ (m : List ℕ). Forward 0 by m part') lent_is s)
+  pub forward_lent : {by : ℕ} → Forward 0 0 by lent part' → Forward 0 q by l whole
+  forward_lent {by} s = forward_whole q l part' whole f whole_is (subst (λ (m : List ℕ). Forward 0 0 by m part') lent_is s)
 
-  pub backward_lent : {by : ℕ} → Backward 0 by lent part' → Backward q by l whole
-  backward_lent {by} s = backward_whole q l part' whole f whole_is (subst (λ (m : List ℕ). Backward 0 by m part') lent_is s)
-
--- words that were cleared
-pub cleared-all : (k : ℕ) (w w' : List ℕ) → length w ≡ k → w' ≡ replicate k 0 ++ drop k w → (j : ℕ) → get_or w' j 0 ≡ 0
-cleared-all k w w' e f = cleared w w' (f ∙ ap (λ (i : ℕ). replicate i 0 ++ drop i w) (sym e))
-
--- the words have moved as far as some follow, and what they left behind was cleared
-module _ (by : ℕ) {i end : ℕ} {l cur : List ℕ} (part' : List ℕ) (s : Shifting by i l cur) (e : end ≡ length l - by) where
-  behind-fits : end ≤ length cur
-  behind-fits = omega (arith, s.size)
-
-  abbrev behind : List ℕ
-  behind = take (length cur - end) (drop end cur)
-
-  abbrev after : List ℕ
-  after = take end cur ++ (part' ++ drop (length cur - end) (drop end cur))
-
-  after_is : take end cur ++ (part' ++ drop (length cur - end) (drop end cur)) ≡ take end cur ++ part'
-  after_is = whole_is end cur part' behind-fits
-
-  pub shifting_end : end ≤ i → length part' ≡ length behind → part' ≡ replicate (length cur - end) 0 ++ drop (length cur - end) behind → Forward 0 by l after
-  shifting_end g k z = record {
-    size = whole-size end cur part' after behind-fits after_is (k ∙ ap length (lent_is end cur part' behind-fits)) ∙ s.size;
-    before = λ j p. absurd (omega arith);
-    moved = λ j p. pick j (dec_lt j end);
-  }
-    where
-      pick : (j : ℕ) → Dec (j < end) → get_or after j 0 ≡ get_or l (j + by) 0
-      pick j (yes q) = at_front end cur part' after behind-fits after_is j q ∙ s.done j (omega arith)
-      pick j (no q) =
-          let h : end + (j - end) ≡ j = omega arith in
-          sym (ap (λ (m : ℕ). get_or after m 0) h) ∙ at_part end cur part' after behind-fits after_is (j - end)
-          ∙ cleared-all (length cur - end) behind part' (length-take-le (length cur - end) (drop end cur) (omega (arith, length-drop end cur))) z (j - end)
-          ∙ sym (get_or-eq_default l 0 (omega arith))
+  pub backward_lent : {by : ℕ} → Backward 0 0 by lent part' → Backward 0 q by l whole
+  backward_lent {by} s = backward_whole q l part' whole f whole_is (subst (λ (m : List ℕ). Backward 0 0 by m part') lent_is s)
 
 -- what stands behind a place that is written over
-pub backward_set : {q by : ℕ} {l l' : List ℕ} (k v : ℕ) → Backward q by l l' → q ≤ k → k < q + by → Backward q by l (set l' k v)
+pub backward_set : {q by : ℕ} {l l' : List ℕ} (k v : ℕ) → Backward 0 q by l l' → q ≤ k → k < q + by → Backward 0 q by l (set l' k v)
 backward_set {q} {by} {l} {l'} k v s p r = record {
   size = length-set l' k v ∙ s.size;
   before = λ j m. let n : j ≢ k = λ z. omega arith in get_or-set_other l' k j v 0 n ∙ s.before j m;
   moved = λ j m f. let n : j + by ≢ k = λ z. omega arith in get_or-set_other l' k (j + by) v 0 n ∙ s.moved j m f;
 }
 
-backward_put : (p : ℕ) {l l' : List ℕ} (t : Tri) → Backward (3 * p) 3 l l' → Backward (3 * p) 3 l (put_at l' p t)
+backward_put : (p : ℕ) {l l' : List ℕ} (t : Tri) → Backward 0 (3 * p) 3 l l' → Backward 0 (3 * p) 3 l (put_at l' p t)
 backward_put p {l} {l'} t s =
     backward_set (3 * p + 2) t.c (backward_set (3 * p + 1) t.b (backward_set (3 * p) t.a s (omega arith) (omega arith)) (omega arith) (omega arith)) (omega arith) (omega arith)
 
-pub label-put : {p : ℕ} {l l' : List ℕ} (x : ℕ) → Backward p 1 l l' → p < length l → (Backward p 1 l (set l' p x)) × (get_or (set l' p x) p 0 ≡ x)
+pub label-put : {p : ℕ} {l l' : List ℕ} (x : ℕ) → Backward 0 p 1 l l' → p < length l → (Backward 0 p 1 l (set l' p x)) × (get_or (set l' p x) p 0 ≡ x)
 label-put {p} {l} {l'} x s f = (backward_set p x s (omega arith) (omega arith), get_or-set_same l' p x 0 (omega (arith, s.size)))
 
 put-there : (l : List ℕ) (p : ℕ) (t : Tri) → 3 * p + 2 < length l → tri_at (put_at l p t) p ≡ t
 put-there l p t f = sym (place-held (put_at l p t) (suc p) p (omega (arith, length-put l p t)) (omega arith)) ∙ ap (λ (k : List Tri). place k p) (set-held l (suc p) p t (omega arith) (omega arith))
     ∙ get_or-set_same (held l (suc p)) p t (tri 0 0 0) (omega (arith, length-held l (suc p) (omega arith)))
 
-pub triangle_put : (p : ℕ) {l l' r : List ℕ} (t : Tri) → Backward (3 * p) 3 l l' → 3 * p + 2 < length l → r ≡ put_at l' p t → (Backward (3 * p) 3 l r) × (tri_at r p ≡ t)
+pub triangle_put : (p : ℕ) {l l' r : List ℕ} (t : Tri) → Backward 0 (3 * p) 3 l l' → 3 * p + 2 < length l → r ≡ put_at l' p t → (Backward 0 (3 * p) 3 l r) × (tri_at r p ≡ t)
 triangle_put p {l} {l'} {r} t s f e =
-    (subst (λ (m : List ℕ). Backward (3 * p) 3 l m) (sym e) (backward_put p t s), ap (λ (m : List ℕ). tri_at m p) e ∙ put-there l' p t (omega (arith, s.size)))
+    (subst (λ (m : List ℕ). Backward 0 (3 * p) 3 l m) (sym e) (backward_put p t s), ap (λ (m : List ℕ). tri_at m p) e ∙ put-there l' p t (omega (arith, s.size)))
 
 -- where there is only 0
 zeros : (k x : ℕ) → ◌≡◌ {A = ℕ} (get_or (replicate k 0) x 0) 0
 zeros zero x = refl
 zeros (suc k) zero = refl
 zeros (suc k) (suc x) = zeros k x
+
+pub filled : (k : ℕ) (l : List ℕ) → l ≡ replicate k 0 → (j : ℕ) → get_or l j 0 ≡ 0
+filled k l e j = ap (λ (m : List ℕ). get_or m j 0) e ∙ zeros k j
 
 pub drop-zero : (k : ℕ) (l : List ℕ) → drop k l ≡ replicate (length l - k) 0 → Zero k l
 drop-zero k l e j p =
@@ -182,7 +173,7 @@ pub zero-drop : (k : ℕ) (l : List ℕ) → Zero k l → drop k l ≡ replicate
 zero-drop k l z = ext_get_or 0 (drop k l) (replicate (length l - k) 0) (length-drop k l ∙ sym (length-replicate (length l - k) 0))
     (λ i p. get_or-drop k l i 0 ∙ z (k + i) (omega arith) ∙ sym (zeros (length l - k) i))
 
-pub backward_zero : {q by : ℕ} {l l' : List ℕ} (k : ℕ) → Backward q by l l' → q ≤ k → Zero k l → Zero (k + by) l'
+pub backward_zero : {q by : ℕ} {l l' : List ℕ} (k : ℕ) → Backward 0 q by l l' → q ≤ k → Zero k l → Zero (k + by) l'
 backward_zero {q} {by} {l} {l'} k s p z j m = pick (dec_lt j (length l))
   where
     pick : Dec (j < length l) → get_or l' j 0 ≡ 0
@@ -233,7 +224,7 @@ inserted_by {A} d p x xs ys f e g h k = ext_get_or d ys (inserted p x xs) (e ∙
 
 -- the triangles in use, with one put in
 module _ {l l' : List ℕ} (n p : ℕ) (room : 3 * suc n ≤ length l) (f : p ≤ n) where
-  pub inserted-held : Backward (3 * p) 3 l l' → (t : Tri) → tri_at l' p ≡ t → held l' (suc n) ≡ inserted p t (held l n)
+  pub inserted-held : Backward 0 (3 * p) 3 l l' → (t : Tri) → tri_at l' p ≡ t → held l' (suc n) ≡ inserted p t (held l n)
   inserted-held s t e =
       let z = s.size in
       let a : length (held l' (suc n)) ≡ suc n = length-held l' (suc n) (omega arith) in
@@ -249,7 +240,7 @@ module _ {l l' : List ℕ} (n p : ℕ) (room : 3 * suc n ≤ length l) (f : p �
 
 -- the labels in use likewise
 module _ {l l' : List ℕ} (n p : ℕ) (room : suc n ≤ length l) (f : p ≤ n) where
-  pub inserted-take : Backward p 1 l l' → (x : ℕ) → get_or l' p 0 ≡ x → take (suc n) l' ≡ inserted p x (take n l)
+  pub inserted-take : Backward 0 p 1 l l' → (x : ℕ) → get_or l' p 0 ≡ x → take (suc n) l' ≡ inserted p x (take n l)
   inserted-take s x e =
       let z = s.size in
       let a : length (take (suc n) l') ≡ suc n = length-take-le (suc n) l' (omega arith) in

@@ -17,7 +17,7 @@ use Rattle.entries.proofs.Mapped.{tri_path}
 use Rattle.entries.proofs.Moved.{at_front, at_part, whole-size, forward_lent}
 
 -- the part from p to q was lent and moved forward
-module _ (p q by : ℕ) (l part' : List ℕ) (o : p + by ≤ q) (f : q ≤ length l) (s : Forward 0 by (take (q - p) (drop p l)) part') where
+module _ (p q by : ℕ) (l part' : List ℕ) (o : p + by ≤ q) (f : q ≤ length l) (s : Forward 0 0 by (take (q - p) (drop p l)) part') where
   abbrev rest : List ℕ
   rest = drop (q - p) (drop p l)
 
@@ -46,7 +46,7 @@ module _ (p q by : ℕ) (l part' : List ℕ) (o : p + by ≤ q) (f : q ≤ lengt
       ∙ get_or-drop (q - p) (drop p l) (j - q) 0 ∙ get_or-drop p l (q - p + (j - q)) 0 ∙ ap (λ (k : ℕ). get_or l k 0) e
 
   -- and then the part from the freed places on moved forward over these and the by places at q
-  pub taken_out : (part'' : List ℕ) → Forward 0 (by + by) (take (length first - (q - by)) (drop (q - by) first)) part''
+  pub taken_out : (part'' : List ℕ) → Forward 0 0 (by + by) (take (length first - (q - by)) (drop (q - by) first)) part''
       → TakenOut p q by l (take (q - by) first ++ (part'' ++ drop (length first - (q - by)) (drop (q - by) first)))
   taken_out part'' u =
       let t = forward_lent (q - by) first part'' (omega (arith, first-size)) u in

@@ -14,7 +14,7 @@ use Rattle.entries.proofs.Mapped.{map-by, tri_path}
 use Rattle.entries.proofs.Turns.{Turning}
 
 abbrev pub Wording : (ℕ → ℕ) → ℕ → List ℕ → List ℕ → Type 0
-Wording f i l cur = Turning (λ (j : ℕ). f (get_or l j 0)) i l cur
+Wording f i l cur = Turning 0 (λ (j : ℕ). f (get_or l j 0)) i l cur
 
 -- where all words in use are changed, their triangles are
 abbrev pub each : (ℕ → ℕ) → Tri → Tri

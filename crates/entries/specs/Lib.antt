@@ -1,3 +1,4 @@
 pub mod Moved
 pub mod Marks
 pub mod Undoes
+pub mod After

@@ -7,17 +7,17 @@ use Rattle.history.specs.Flat.{pair_of}
 abbrev pub Zero : ℕ → List ℕ → Type 0
 Zero k l = (j : ℕ) → k ≤ j → get_or l j 0 ≡ 0
 
--- what stands from q + by on has moved forward to q; 0 came in at the end
-pub record Forward (q by : ℕ) (l l' : List ℕ) : Type 0 where
+-- what stands from q + by on has moved forward to q; d came in at the end
+pub record Forward {A : Type 0} (d : A) (q by : ℕ) (l l' : List A) : Type 0 where
   pub size : length l' ≡ length l
-  pub before : (j : ℕ) → j < q → get_or l' j 0 ≡ get_or l j 0
-  pub moved : (j : ℕ) → q ≤ j → get_or l' j 0 ≡ get_or l (j + by) 0
+  pub before : (j : ℕ) → j < q → get_or l' j d ≡ get_or l j d
+  pub moved : (j : ℕ) → q ≤ j → get_or l' j d ≡ get_or l (j + by) d
 
 -- what stood from q on has moved back to q + by; what passed the end is gone
-pub record Backward (q by : ℕ) (l l' : List ℕ) : Type 0 where
+pub record Backward {A : Type 0} (d : A) (q by : ℕ) (l l' : List A) : Type 0 where
   pub size : length l' ≡ length l
-  pub before : (j : ℕ) → j < q → get_or l' j 0 ≡ get_or l j 0
-  pub moved : (j : ℕ) → q ≤ j → j + by < length l → get_or l' (j + by) 0 ≡ get_or l j 0
+  pub before : (j : ℕ) → j < q → get_or l' j d ≡ get_or l j d
+  pub moved : (j : ℕ) → q ≤ j → j + by < length l → get_or l' (j + by) d ≡ get_or l j d
 
 -- what stood in the by places from p on and from q on is gone: what stood between has moved forward by as many, what stood behind by twice as many; 0 came in at the end
 pub record TakenOut (p q by : ℕ) (l l' : List ℕ) : Type 0 where

@@ -12,6 +12,9 @@ use lib.Ieee.Digits.{back}
 use lib.Ieee.Fits.{down_pos}
 use lib.Ieee.Exact.{HasValue}
 use borrow.Author.Tests.{ltb-true, ltb-false, leb-true, leb-false, eqb-true, le-ltb, le-leb, lt-leb}
+use lib.Ieee.{is_nan}
+use Rattle.std.specs.Float.{NotNan}
+use Rattle.std.proofs.lemmas.Float.{lt_irrefl, lt_of_le_of_lt as lt_of_le_of_ltᶠ, lt_of_not-le, T_from_true, T_from_false}
 use Rattle.float.specs.Root.{quanta}
 use Rattle.float.proofs.Nearest.{Quanta, in_quanta, quanta-exact}
 use Rattle.field.specs.Number.{limit, least, half}
@@ -322,26 +325,44 @@ bounded_at (fin true m e) f h =
       at = refl;
     }
 
--- ---- a side of the box
-
-pub side-outside : (l u : Float) → bounded l ≡ false → false ≡ side_ok l u
-unfolding side_ok
-side-outside l u e = sym (ap (λ (t : Bool). t && bounded u && leb (place l + 2 ^ 1054) (place u)) e)
-
-pub side-outside_2 : (l u : Float) → bounded l ≡ true → bounded u ≡ false → false ≡ side_ok l u
-unfolding side_ok
-side-outside_2 l u e g = sym (ap₂ (λ (t v : Bool). t && v && leb (place l + 2 ^ 1054) (place u)) e g)
-
-side-is : (l u : Float) → bounded l ≡ true → bounded u ≡ true → leb (place l + 2 ^ 1054) (place u) ≡ side_ok l u
-unfolding side_ok
-side-is l u e g = sym (ap₂ (λ (t v : Bool). t && v && leb (place l + 2 ^ 1054) (place u)) e g)
-
 not_ltb : (a b : ℕ) → not (ltb a b) ≡ leb b a
 not_ltb a b = go (ltb a b) (ltb-true a b) (ltb-false a b) refl
   where
     go : (t : Bool) → (ltb a b ≡ true → a < b) → (ltb a b ≡ false → b ≤ a) → ltb a b ≡ t → not (ltb a b) ≡ leb b a
     go true x y e = ap not e ∙ sym (lt-leb b a (x e))
     go false x y e = ap not e ∙ sym (le-leb b a (y e))
+
+number_at : (x : Float) {p : ℕ} → At x p → NotNan x
+unfolding is_nan
+number_at nan v = absurd v.is
+number_at (inf s) v = tt
+number_at (fin s m e) v = tt
+
+not_lt : (x y : Float) → NotNan x → NotNan y → le x y ≡ not (lt y x)
+not_lt x y n m = go (le x y) (lt y x) refl refl
+  where
+    go : (t u : Bool) → le x y ≡ t → lt y x ≡ u → t ≡ not u
+    go true true e f = absurd (lt_irrefl x (lt_of_le_of_ltᶠ x y x (T_from_true (le x y) e) (T_from_true (lt y x) f)))
+    go true false e f = refl
+    go false true e f = refl
+    go false false e f = absurd (subst T f (lt_of_not-le x y n m (T_from_false (le x y) e)))
+
+le_at : (x y : Float) {p q : ℕ} → At x p → At y q → le x y ≡ leb p q
+le_at x y {p} {q} u v = not_lt x y (number_at x u) (number_at y v) ∙ ap not (lt_at y x v u) ∙ not_ltb q p
+
+-- ---- a side of the box
+
+pub side_outside : (l u : Float) → bounded l ≡ false → false ≡ side_ok l u
+unfolding side_ok
+side_outside l u e = sym (ap (λ (t : Bool). t && bounded u && leb (place l + 2 ^ 1054) (place u)) e)
+
+pub side_outside_2 : (l u : Float) → bounded l ≡ true → bounded u ≡ false → false ≡ side_ok l u
+unfolding side_ok
+side_outside_2 l u e g = sym (ap₂ (λ (t v : Bool). t && v && leb (place l + 2 ^ 1054) (place u)) e g)
+
+side-is : (l u : Float) → bounded l ≡ true → bounded u ≡ true → leb (place l + 2 ^ 1054) (place u) ≡ side_ok l u
+unfolding side_ok
+side-is l u e g = sym (ap₂ (λ (t v : Bool). t && v && leb (place l + 2 ^ 1054) (place u)) e g)
 
 module _ (K H D p q : ℕ) (d : D ≡ H + H) (k : D ≤ K) where
   close : q < K + H → K - H < p → q < p + D
@@ -361,23 +382,22 @@ module _ (l u : Float) (fl : T (fits binary64 l)) (fu : T (fits binary64 u)) (bl
   at-u : At u (place u)
   at-u = bounded_at u fu bu
 
-  pub side-short : lt u half ≡ true → lt (neg half) l ≡ true → false ≡ side_ok l u
+  pub side-short : lt u half ≡ true → le l (neg half) ≡ false → false ≡ side_ok l u
   side-short a b =
       sym (lt-leb (place l + 2 ^ 1054) (place u)
       (close (2 ^ 1094) (2 ^ 1053) (2 ^ 1054) (place l) (place u) refl (lit≤ tt)
       (ltb-true (place u) (2 ^ 1094 + 2 ^ 1053) (sym (lt_at u half at-u half_at) ∙ a))
-      (ltb-true (2 ^ 1094 - 2 ^ 1053) (place l) (sym (lt_at (neg half) l minus-half-at at_l) ∙ b))))
+      (leb-false (place l) (2 ^ 1094 - 2 ^ 1053) (sym (le_at l (neg half) at_l minus-half-at) ∙ b))))
       ∙ side-is l u bl bu
 
-  pub side-lower : lt (neg half) l ≡ false → (t : Bool) → lt u (add binary64 l least) ≡ t → not t ≡ side_ok l u
-  side-lower a t e =
-      let h = low_half (2 ^ 1094) (2 ^ 1053) (2 ^ 1054) (place l) 0 refl (lit≤ tt) (ltb-false (2 ^ 1094 - 2 ^ 1053) (place l) (sym (lt_at (neg half) l minus-half-at at_l) ∙ a)) in
-      ap not (sym e ∙ lt_at u (add binary64 l least) at-u (more-at l (place l) at_l h)) ∙ not_ltb (place u) (place l + 2 ^ 1054) ∙ side-is l u bl bu
+  pub side-lower : le l (neg half) ≡ true → le (add binary64 l least) u ≡ side_ok l u
+  side-lower a =
+      let h = low_half (2 ^ 1094) (2 ^ 1053) (2 ^ 1054) (place l) 0 refl (lit≤ tt) (leb-true (place l) (2 ^ 1094 - 2 ^ 1053) (sym (le_at l (neg half) at_l minus-half-at) ∙ a)) in
+      le_at (add binary64 l least) u (more-at l (place l) at_l h) at-u ∙ side-is l u bl bu
 
-  pub side-upper : lt u half ≡ false → (t : Bool) → lt (sub binary64 u least) l ≡ t → not t ≡ side_ok l u
-  side-upper a t e =
+  pub side-upper : lt u half ≡ false → le l (sub binary64 u least) ≡ side_ok l u
+  side-upper a =
       let h = ltb-false (place u) (2 ^ 1094 + 2 ^ 1053) (sym (lt_at u half at-u half_at) ∙ a) in
-      ap not (sym e ∙ lt_at (sub binary64 u least) l (less-at u (place u) at-u h) at_l)
-      ∙ not_ltb (place u - 2 ^ 1054) (place l)
+      le_at l (sub binary64 u least) at_l (less-at u (place u) at-u h)
       ∙ swapped (2 ^ 1094) (2 ^ 1053) (2 ^ 1054) (place l) (place u) refl (lit≤ tt) h
       ∙ side-is l u bl bu

@@ -1,15 +1,15 @@
 -- Which sheets are taken: the conditions on the terms, the levels and the box. Definitions only.
-use Rattle.std.specs.Prelude.{ℕ, ◌+◌, ◌-◌, ◌*◌, ◌^◌, Bool, true, false, ◌&&◌, ◌||◌, List, [], ◌∷◌, leb, eqb, length, get_or, Float}
+use Rattle.std.specs.Prelude.{ℕ, ◌+◌, ◌-◌, ◌*◌, ◌^◌, Bool, true, false, ◌&&◌, ◌||◌, List, leb, eqb, length, get_or, Float}
 use Rattle.std.specs.Float.Ieee as Ieee
 use Rattle.std.specs.Float.{nan, inf, fin, binary64}
+use Rattle.std.specs.List.{list_all}
 use Rattle.float.specs.Order.{is_finite}
 use Rattle.float.specs.Root.{quanta}
 use Rattle.field.specs.Number.{limit}
 
 -- p holds of each
-unfoldable pub every : {A : Type 0} → (A → Bool) → List A → Bool
-every p [] = true
-every p (x ∷ xs) = p x && every p xs
+abbrev pub every : {A : Type 0} → (A → Bool) → List A → Bool
+every p xs = list_all p xs
 
 -- a power is 0 to 3
 abbrev pub is_power : ℕ → Bool
@@ -38,7 +38,7 @@ side_ok lower upper = bounded lower && bounded upper && leb (place lower + 2 ^ 1
 
 -- up to 64 terms, three powers to each, the coefficients finite, the powers 0 to 3
 unfoldable pub terms_ok : List Float → List ℕ → Bool
-unfolding every is_finite
+unfolding is_finite
 terms_ok qs ns = leb (length qs) 64 && (eqb (length ns) (length qs * 3) && (every is_finite qs && every is_power ns))
 
 -- the box, by its lower x, y, z and then its upper x, y, z

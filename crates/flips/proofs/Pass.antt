@@ -1,5 +1,5 @@
 -- The pass side by side: the corners and the words that it leaves are those of the definition's state.
-use Prim.Native.Nat.{ℕ, ◌+◌, ◌*◌, ◌-◌, ◌<◌, ◌≤◌}
+use Prim.Native.Nat.{ℕ, ◌+◌, ◌*◌, ◌<◌, ◌≤◌}
 use native.Mathlib.Omega.{arith}
 use mathlib.Core.Path.{◌≡◌, refl, sym, ap, ap₂, ◌∙◌, subst}
 use mathlib.Core.Logic.{◌⊎◌, inl, inr}
@@ -12,7 +12,9 @@ use borrow.Author.Tests.{eqb-true, eqb-false}
 use Rattle.surface.specs.Triangle.{Tri, tri, triangles}
 use Rattle.surface.specs.Closed.{one, sides}
 use Rattle.surface.specs.Edit.{Hinge}
+use Rattle.surface.specs.Flat.{put_at}
 use Rattle.surface.proofs.Flat.{set-triangles}
+use Rattle.surface.proofs.Held.{length-put}
 use Rattle.halfedges.specs.Place.{nx, pv, at}
 use Rattle.halfedges.proofs.Fine.{nx-below}
 use Rattle.sides.specs.Side.{Twin}
@@ -24,7 +26,7 @@ use Rattle.scores.proofs.Words.{kept_same}
 use Rattle.scores.specs.Measures.{score_at}
 use Rattle.scores.specs.Measures.{pair_of}
 use Rattle.flips.specs.declared.Quad.{Quad}
-use Rattle.flips.specs.Quads.{put_tri, flip_corners, touch_four, Ready}
+use Rattle.flips.specs.Quads.{flip_corners, touch_four, Ready}
 use Rattle.flips.proofs.Decision.{hinge_in, Sided}
 
 -- ---- a step of the definition's pass
@@ -54,21 +56,16 @@ pub record Matches (p touched : ℕ) (st : FlipState) (c w : List ℕ) : Type 0 
   pub tris : triangles c ≡ st.tris
   pub marks : (x : ℕ) → x < p → at w (touched + x) ≡ one (st.touched x)
 
-put_triangle_lem : (c : List ℕ) (i x y z : ℕ) → i * 3 + 2 < length c → triangles (put_tri c i x y z) ≡ set (triangles c) i (tri x y z)
-put_triangle_lem c i x y z l =
-    let e : i * 3 ≡ 3 * i = omega arith in
-    ap (λ (n : ℕ). triangles (set (set (set c n x) (n + 1) y) (n + 2) z)) e ∙ set-triangles c i x y z (omega arith)
-
-put-length : (c : List ℕ) (i x y z : ℕ) → length (put_tri c i x y z) ≡ length c
-put-length c i x y z = length-set (set (set c (i * 3) x) (i * 3 + 1) y) (i * 3 + 2) z ∙ length-set (set c (i * 3) x) (i * 3 + 1) y ∙ length-set c (i * 3) x
+put_triangle_lem : (c : List ℕ) (i x y z : ℕ) → i * 3 + 2 < length c → triangles (put_at c i (tri x y z)) ≡ set (triangles c) i (tri x y z)
+put_triangle_lem c i x y z l = set-triangles c i x y z (omega arith)
 
 pub flip-length : (q : Quad) (c : List ℕ) → length (flip_corners q c) ≡ length c
-flip-length q c = put-length (put_tri c q.one q.c q.d q.v) q.two q.d q.c q.u ∙ put-length c q.one q.c q.d q.v
+flip-length q c = length-put (put_at c q.one (tri q.c q.d q.v)) q.two (tri q.d q.c q.u) ∙ length-put c q.one (tri q.c q.d q.v)
 
 flip-triangles : (q : Quad) (c : List ℕ) → q.one * 3 + 2 < length c → q.two * 3 + 2 < length c → triangles (flip_corners q c) ≡ flip_at (hinge_in q) (triangles c)
 flip-triangles q c l m =
-    let e = put-length c q.one q.c q.d q.v in
-    put_triangle_lem (put_tri c q.one q.c q.d q.v) q.two q.d q.c q.u (omega arith)
+    let e = length-put c q.one (tri q.c q.d q.v) in
+    put_triangle_lem (put_at c q.one (tri q.c q.d q.v)) q.two q.d q.c q.u (omega arith)
     ∙ ap (λ (ts : List Tri). set ts q.two (tri q.d q.c q.u)) (put_triangle_lem c q.one q.c q.d q.v l)
 
 or_true : (b : Bool) → b || true ≡ true

@@ -1,24 +1,23 @@
 -- The stages of the flip pass put together.
-use Prim.Native.Nat.{ℕ, ◌+◌, ◌*◌, ◌-◌, ◌/◌, ◌<◌, ◌≤◌}
+use Prim.Native.Nat.{ℕ, ◌+◌, ◌*◌, ◌/◌, ◌<◌, ◌≤◌}
 use native.Mathlib.Omega.{arith}
 use mathlib.Core.Path.{◌≡◌, sym, ap, ◌∙◌, subst}
-use mathlib.Core.List.{List, ◌++◌, map}
-use lib.ListN.{length, take, drop, length-drop, length-take}
+use mathlib.Core.List.{List, map}
+use lib.ListN.{length}
 use lib.Seq.{ext_get_or}
 use lib.Ieee.{Float}
 use Rattle.surface.specs.Triangle.{Tri, triangles}
 use Rattle.surface.specs.Closed.{Closed, sides}
-use Rattle.halfedges.specs.Place.{nx, pv, at, uses, Sized}
+use Rattle.halfedges.specs.Place.{nx, pv, at, uses}
 use Rattle.halfedges.specs.Free.{Free}
 use Rattle.halfedges.proofs.Free.{free_wider, free_more}
 use Rattle.halfedges.proofs.Fine.{nx-below}
 use Rattle.sides.specs.Side.{Twin, sorted, sides-from}
-use Rattle.sides.specs.Whole.{Handed, Listed}
+use Rattle.sides.specs.Whole.{Listed}
 use Rattle.sides.specs.Valence.{Valued}
 use Rattle.sides.proofs.Order.{among-at}
 use Rattle.sorting.specs.Stable.{part}
 use Rattle.sorting.proofs.Parts.{part_at, part-kept, part_length}
-use Rattle.chains.specs.Chain.{Chained}
 use Rattle.chains.specs.Marks.{Lists, Marking, Cleared}
 use Rattle.chains.specs.Clear.{ChainedAt}
 use Rattle.chains.specs.AcrossMarks.{AcrossBelow}
@@ -38,17 +37,8 @@ use Rattle.flips.specs.Whole.{sides_from, chains_from, across_from, flip_words, 
 -- ---- mark_list
 
 module _ (c : List ℕ) (p : ℕ) (w : List ℕ) (lists : Lists c p) (closed : Closed (triangles c)) (room : across_from c p + length c ≤ length w) where
-  pub list_handed : Handed c p w
-  list_handed = record { thirds = lists.thirds; few = lists.few; points = lists.points; below = lists.below; room = omega arith; closed = closed }
-
   module _ (w₁ : List ℕ) (r : ℕ) (e₁ : length w₁ ≡ length w) (l : Listed c p w w₁ r) where
-    pub list-sized : Sized c p w₁
-    list-sized = record { thirds = lists.thirds; few = lists.few; points = lists.points; below = lists.below; room = omega arith }
-
     module _ (w₂ : List ℕ) (e₂ : length w₂ ≡ length w₁) (v : Valued c p w₁ w₂) where
-      pub chain-room : chains_from c p + p + length c ≤ length w₂
-      chain-room = omega arith
-
       module _ (w₃ : List ℕ) (e₃ : length w₃ ≡ length w₂) (h : ChainedAt c p (chains_from c p) w₂ w₃) where
         past : (j : ℕ) → p + p ≤ j → j < chains_from c p → at w₃ j ≡ at w₁ j
         past j m n = h.rest.under j n ∙ v.kept.over j m

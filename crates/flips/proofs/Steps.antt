@@ -1,10 +1,10 @@
 -- What the calls of the functions without loops come to.
-use Prim.Native.Nat.{ℕ, ◌+◌, ◌*◌, ◌-◌, ◌/◌, ◌%◌, ◌<◌, ◌≤◌}
+use Prim.Native.Nat.{ℕ, ◌+◌, ◌*◌, ◌/◌, ◌%◌, ◌<◌, ◌≤◌}
 use native.Mathlib.Omega.{arith}
 use mathlib.Core.Path.{◌≡◌, refl, sym, ap, ap₂, ◌∙◌, subst}
 use mathlib.Core.Bool.{Bool, true, false, not, ◌&&◌, ◌||◌, cond, false≢true}
 use mathlib.Core.List.{List}
-use lib.Dec.{T, eqb, ltb}
+use lib.Dec.{eqb, ltb}
 use lib.ListN.{length, get_or, set}
 use lib.Ieee as Ieee
 use lib.Ieee.{Float, inf, binary64, of_bits, nan_bits, is_nan}
@@ -13,7 +13,6 @@ use Rattle.float.specs.Order.{lesser, greater}
 use Rattle.float.specs.Point.{plus}
 use Rattle.float.proofs.Below.{lesser_lt, lesser_le, lesser-number}
 use Rattle.surface.specs.Triangle.{tri}
-use Rattle.surface.specs.Closed.{one}
 use Rattle.halfedges.specs.Place.{nx, pv, at}
 use Rattle.halfedges.proofs.Fine.{nx-below, pv-below}
 use Rattle.sides.specs.Side.{Twin}
@@ -25,7 +24,8 @@ use Rattle.scores.specs.Words.{float_at, Held}
 use Rattle.scores.proofs.Words.{held}
 use Rattle.scores.specs.Measures.{score_at}
 use Rattle.flips.specs.declared.Quad.{Quad}
-use Rattle.flips.specs.Quads.{quad_of, quad_at, begun_at, touches, evens_at, before_at, first_of, gains_of, improves_at, decides, put_tri, flip_corners, touch_four, quad_in, decides_at, Tried, Ready, Within}
+use Rattle.surface.specs.Flat.{put_at}
+use Rattle.flips.specs.Quads.{quad_of, quad_at, begun_at, touches, evens_at, before_at, first_of, gains_of, improves_at, decides, flip_corners, touch_four, quad_in, decides_at, Tried, Ready, Within}
 
 pub pv-room : (n k : ℕ) → n % 3 ≡ 0 → k < n → pv k < n
 pv-room n k h l = pv-below n k h l
@@ -53,49 +53,7 @@ module _ (f : ℕ → ℕ) (k t r : ℕ) (e : t ≡ r) (q : Quad) where
   pub quad_ahead : k ≤ t → q ≡ quad_of f k t → q ≡ quad_at f k r
   quad_ahead l h = h ∙ sym (ap (λ (b : Bool). cond b (quad_of f t k) (quad_of f k t)) (le-ltb t k l)) ∙ ap (quad_at f k) e
 
--- ---- is_touched
-
-set_word : (x y : ℕ) → x ≡ y → (x ≡ 0 → ⊥) → not (eqb y 0) ≡ true
-set_word x y e n = ap not (ne_eqb y 0 (λ z. n (e ∙ z)))
-
-clear_word : (x y : ℕ) → x ≡ y → x ≡ 0 → not (eqb y 0) ≡ false
-clear_word x y e z = ap not (eq-eqb y 0 (sym e ∙ z))
-
-or_yes : (a b : Bool) → a ≡ true → true ≡ a || b
-or_yes a b e = sym (ap (λ (x : Bool). x || b) e)
-
-or_no : (a b r : Bool) → a ≡ false → r ≡ b → r ≡ a || b
-or_no a b r e f = f ∙ sym (ap (λ (x : Bool). x || b) e)
-
-module _ (w : List ℕ) (touched : ℕ) (q : Quad) where
-  abbrev tu : Bool
-  tu = not (eqb (at w (touched + q.u)) 0)
-
-  abbrev tv : Bool
-  tv = not (eqb (at w (touched + q.v)) 0)
-
-  abbrev tc : Bool
-  tc = not (eqb (at w (touched + q.c)) 0)
-
-  abbrev td : Bool
-  td = not (eqb (at w (touched + q.d)) 0)
-
-  pub touch_u : (x : ℕ) → x ≡ at w (touched + q.u) → (x ≡ 0 → ⊥) → true ≡ touches w touched q
-  touch_u x e n = or_yes tu (tv || (tc || td)) (set_word x (at w (touched + q.u)) e n)
-
-  pub touch_v : (x y : ℕ) → x ≡ at w (touched + q.u) → x ≡ 0 → y ≡ at w (touched + q.v) → (y ≡ 0 → ⊥) → true ≡ touches w touched q
-  touch_v x y e z f n = or_no tu (tv || (tc || td)) true (clear_word x (at w (touched + q.u)) e z) (or_yes tv (tc || td) (set_word y (at w (touched + q.v)) f n))
-
-  pub touch_c : (x y z : ℕ) → x ≡ at w (touched + q.u) → x ≡ 0 → y ≡ at w (touched + q.v) → y ≡ 0 → z ≡ at w (touched + q.c) → (z ≡ 0 → ⊥) → true ≡ touches w touched q
-  touch_c x y z e a f b g n =
-      or_no tu (tv || (tc || td)) true (clear_word x (at w (touched + q.u)) e a)
-      (or_no tv (tc || td) true (clear_word y (at w (touched + q.v)) f b) (or_yes tc td (set_word z (at w (touched + q.c)) g n)))
-
-  pub touch_d : (x y z t : ℕ) → x ≡ at w (touched + q.u) → x ≡ 0 → y ≡ at w (touched + q.v) → y ≡ 0 → z ≡ at w (touched + q.c) → z ≡ 0 → t ≡ at w (touched + q.d) → not (eqb t 0) ≡ touches w touched q
-  touch_d x y z t e a f b g d h =
-      or_no tu (tv || (tc || td)) (not (eqb t 0)) (clear_word x (at w (touched + q.u)) e a)
-      (or_no tv (tc || td) (not (eqb t 0)) (clear_word y (at w (touched + q.v)) f b)
-      (or_no tc td (not (eqb t 0)) (clear_word z (at w (touched + q.c)) g d) (ap (λ (i : ℕ). not (eqb i 0)) h)))
+-- ---- the degrees
 
 pub evens-is : (w : List ℕ) (degrees : ℕ) (q : Quad) (x y z t : ℕ) → x ≡ at w (degrees + q.u) → y ≡ at w (degrees + q.v) → z ≡ at w (degrees + q.c) → t ≡ at w (degrees + q.d) → ltb (z + t + 2) (x + y) ≡ evens_at w degrees q
 evens-is w degrees q x y z t a b d e = ap₂ (λ (m n : ℕ). ltb (m + 2) n) (ap₂ (λ (m n : ℕ). m + n) d e) (ap₂ (λ (m n : ℕ). m + n) a b)
@@ -105,36 +63,25 @@ evens-is w degrees q x y z t a b d e = ap₂ (λ (m n : ℕ). ltb (m + 2) n) (ap
 pub before-is : (w : List ℕ) (kept : ℕ) (q : Quad) (x y r : Float) → x ≡ float_at w (kept + q.one * 2) → y ≡ float_at w (kept + q.two * 2) → r ≡ lesser x y → r ≡ before_at w kept q
 before-is w kept q x y r e f g = g ∙ ap₂ lesser e f
 
-pub top_is : of_bits binary64 0x7ff0_0000_0000_0000 ≡ inf false
+top_is : of_bits binary64 0x7ff0_0000_0000_0000 ≡ inf false
 unfolding of_bits
 top_is = refl
+
+pub first-is : (s : Scene) (q : Quad) (l : ℕ) (x r : Float) → x ≡ score s (tri q.c q.d q.v) l → r ≡ lesser (of_bits binary64 0x7ff0_0000_0000_0000) x → r ≡ first_of s q l
+first-is s q l x r e g = g ∙ ap₂ lesser top_is e
 
 top_some : is_nan (inf false) ≡ false
 unfolding is_nan
 top_some = refl
 
-pub top_number : T (not (nan_bits binary64 0x7ff0_0000_0000_0000))
-unfolding nan_bits
-top_number = tt
-
-pub first-is : (s : Scene) (q : Quad) (l : ℕ) (x r : Float) → x ≡ score s (tri q.c q.d q.v) l → r ≡ lesser (of_bits binary64 0x7ff0_0000_0000_0000) x → r ≡ first_of s q l
-first-is s q l x r e g = g ∙ ap₂ lesser top_is e
-
 -- ---- gains, improves
 
+or_yes : (a b : Bool) → a ≡ true → true ≡ a || b
+or_yes a b e = sym (ap (λ (x : Bool). x || b) e)
+
 module _ (x : Float) (e : Bool) (y : Float) where
-  pub gains_yes : Ieee.lt (plus x gain_least) y ≡ true → true ≡ gains_of x e y
+  gains_yes : Ieee.lt (plus x gain_least) y ≡ true → true ≡ gains_of x e y
   gains_yes g = or_yes (Ieee.lt (plus x gain_least) y) (e && Ieee.le (greater x shape_enough) y) g
-
-  pub gains_even : (m : Float) → Ieee.lt (plus x gain_least) y ≡ false → e ≡ true → m ≡ greater x shape_enough → Ieee.le m y ≡ gains_of x e y
-  gains_even m g t i =
-      or_no (Ieee.lt (plus x gain_least) y) (e && Ieee.le (greater x shape_enough) y) (Ieee.le m y) g
-      (ap (λ (a : Float). Ieee.le a y) i ∙ sym (ap (λ (a : Bool). a && Ieee.le (greater x shape_enough) y) t))
-
-  pub gains_no : Ieee.lt (plus x gain_least) y ≡ false → e ≡ false → false ≡ gains_of x e y
-  gains_no g t =
-      or_no (Ieee.lt (plus x gain_least) y) (e && Ieee.le (greater x shape_enough) y) false g
-      (sym (ap (λ (a : Bool). a && Ieee.le (greater x shape_enough) y) t))
 
 -- what gains by the lesser of two shapes gains by the first
 gains_first : (x : Float) (e : Bool) (m z : Float) → is_nan m ≡ false → gains_of x e (lesser m z) ≡ true → gains_of x e m ≡ true
@@ -167,8 +114,8 @@ module _ (s : Scene) (w : List ℕ) (degrees kept : ℕ) (q : Quad) (l : ℕ) (x
 
 -- ---- what a flip writes
 
-pub triangles-put : (q : Quad) (c x y : List ℕ) → x ≡ put_tri c q.one q.c q.d q.v → y ≡ put_tri x q.two q.d q.c q.u → y ≡ flip_corners q c
-triangles-put q c x y e f = f ∙ ap (λ (z : List ℕ). put_tri z q.two q.d q.c q.u) e
+pub triangles-put : (q : Quad) (c x y : List ℕ) → x ≡ put_at c q.one (tri q.c q.d q.v) → y ≡ put_at x q.two (tri q.d q.c q.u) → y ≡ flip_corners q c
+triangles-put q c x y e f = f ∙ ap (λ (z : List ℕ). put_at z q.two (tri q.d q.c q.u)) e
 
 pub four-put : (touched : ℕ) (q : Quad) (w a b d e : List ℕ) → a ≡ set w (touched + q.u) 1 → b ≡ set a (touched + q.v) 1 → d ≡ set b (touched + q.c) 1 → e ≡ set d (touched + q.d) 1 → e ≡ touch_four touched q w
 four-put touched q w a b d e i j k l =
@@ -221,22 +168,22 @@ module _ (s : Scene) (ls : List ℕ) (p n across begun kept touched : ℕ) (c w 
   to-place : (r : Bool) → decides s ls w p across kept touched q ≡ r → decides_at s ls p n across begun kept touched w k ≡ r
   to-place r d = ap (decides s ls w p across kept touched) (sym e) ∙ d
 
-  pub tried_no : decides s ls w p across kept touched q ≡ false → Tried (decides_at s ls p n across begun kept touched w k) (quad_in p n begun w k) touched c c w w 0
+  pub tried_no : decides s ls w p across kept touched q ≡ false → Tried (decides_at s ls p n across begun kept touched w k) (quad_in p n begun w k) touched c c w w false
   tried_no d =
       let f = to-place false d in
       record {
         corners = sym (ap (λ (b : Bool). cond b (flip_corners (quad_in p n begun w k) c) c) f);
         words = sym (ap (λ (b : Bool). cond b (touch_four touched (quad_in p n begun w k) w) w) f);
-        count = sym (ap one f);
+        flips = sym f;
       }
 
-  pub tried_yes : (c' w' : List ℕ) → decides s ls w p across kept touched q ≡ true → c' ≡ flip_corners q c → w' ≡ touch_four touched q w → Tried (decides_at s ls p n across begun kept touched w k) (quad_in p n begun w k) touched c c' w w' 1
+  pub tried_yes : (c' w' : List ℕ) → decides s ls w p across kept touched q ≡ true → c' ≡ flip_corners q c → w' ≡ touch_four touched q w → Tried (decides_at s ls p n across begun kept touched w k) (quad_in p n begun w k) touched c c' w w' true
   tried_yes c' w' d g h =
       let f = to-place true d in
       record {
         corners = g ∙ ap (λ (x : Quad). flip_corners x c) e ∙ sym (ap (λ (b : Bool). cond b (flip_corners (quad_in p n begun w k) c) c) f);
         words = h ∙ ap (λ (x : Quad). touch_four touched x w) e ∙ sym (ap (λ (b : Bool). cond b (touch_four touched (quad_in p n begun w k) w) w) f);
-        count = sym (ap one f);
+        flips = sym f;
       }
 
 -- ---- what is read lies within the lists
@@ -255,6 +202,11 @@ within_of c p j l h below a b = record {
   across-low = pv-below (length c) j h a;
 }
 
+pub record Placed (q : Quad) (n p labels corners : ℕ) : Type 0 where
+  pub within : Within q n p
+  pub labelled : labels * 3 ≡ n
+  pub begun : corners ≡ n
+
 module _ (s : Scene) (ls : List ℕ) (p n across begun kept touched : ℕ) (w : List ℕ) (h : Ready s (part w begun n) ls p w across begun kept touched) (room : begun + n ≤ length w) where
   pub begun-length : length (part w begun n) ≡ n
   begun-length = part_length w begun n room
@@ -270,7 +222,7 @@ module _ (s : Scene) (ls : List ℕ) (p n across begun kept touched : ℕ) (w : 
   pub twin-low : (k : ℕ) → k < n → at w (p * 3 + n + k) < n
   twin-low k l = let e = begun-length in let t = (begun-twin k l).low in omega arith
 
-  pub quad_within : (k : ℕ) → k < n → (q : Quad) → q ≡ quad_in p n begun w k → Within q n p
+  quad_within : (k : ℕ) → k < n → (q : Quad) → q ≡ quad_in p n begun w k → Within q n p
   quad_within k l q e =
       let z = begun-length in
       let t = at w (p * 3 + n + k) in
@@ -280,8 +232,12 @@ module _ (s : Scene) (ls : List ℕ) (p n across begun kept touched : ℕ) (w : 
       go true = let z = begun-length in let t = twin-low k l in within_of (part w begun n) p (at w (p * 3 + n + k)) k h.thirds h.below (omega arith) (omega arith)
       go false = let z = begun-length in let t = twin-low k l in within_of (part w begun n) p k (at w (p * 3 + n + k)) h.thirds h.below (omega arith) (omega arith)
 
-  pub labels-fit : length ls * 3 ≡ n
+  labels-fit : length ls * 3 ≡ n
   labels-fit = h.labelled ∙ begun-length
 
   pub shape-held : (i : ℕ) → i < length ls → Held w (kept + i * 2)
   shape-held i l = held w (kept + i * 2) (score_at s (part w begun n) ls i) (h.shapes i l)
+
+  -- the side of the place k: what is read and written for it lies within the lists
+  pub placed : (k : ℕ) → k < n → (q : Quad) → q ≡ quad_in p n begun w k → Placed q n p (length ls) (length (part w begun n))
+  placed k l q e = record { within = quad_within k l q e; labelled = labels-fit; begun = begun-length }

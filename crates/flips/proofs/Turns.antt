@@ -3,13 +3,14 @@ use Prim.Native.Nat.{ℕ, ◌+◌, ◌*◌, ◌-◌, ◌<◌, ◌≤◌}
 use native.Mathlib.Nat.{zero-add}
 use native.Mathlib.Omega.{arith}
 use mathlib.Core.Path.{◌≡◌, refl, sym, ap, ap₂, ◌∙◌, subst}
-use mathlib.Core.Logic.{◌⊎◌, inl, ⊎_elim}
+use mathlib.Core.Logic.{inl, ⊎_elim}
 use mathlib.Core.Bool.{Bool, true, false, cond}
 use mathlib.Core.List.{List, [], ◌∷◌, map}
 use lib.Dec.{T}
 use lib.ListN.{length}
 use lib.Ieee.{Float, binary64, fits}
 use lib.Ieee.Fits.{div-fits}
+use mir.Val.{bool_byte}
 use Rattle.field.specs.Shape.{shape}
 use Rattle.surface.specs.Closed.{one}
 use Rattle.halfedges.specs.Place.{nx, at}
@@ -21,6 +22,7 @@ use Rattle.rounds.specs.Flips.{FlipState}
 use Rattle.oracle.specs.Scene.{Scene, score}
 use Rattle.oracle.specs.Gains.{helps}
 use Rattle.scores.specs.Words.{put_at, Kept}
+use Rattle.chains.proofs.Bits.{bit_one, bit_most}
 use Rattle.scores.proofs.Words.{put-length, put_other, put-kept, put_keeps}
 use Rattle.scores.specs.Measures.{score_at, side_at}
 use Rattle.scores.specs.Measures.{pair_of}
@@ -55,13 +57,6 @@ pub shaped_same : (s : Scene) (c ls : List ℕ) (kept : ℕ) (w w' : List ℕ) (
 shaped_same s c ls kept w w' n m e h = subst (Shaped s c ls kept w w') e h
 
 -- ---- the pass
-
-byte_most : (b : Bool) (x : ℕ) → x ≡ one b → x ≤ 1
-byte_most true x e = omega arith
-byte_most false x e = omega arith
-
-pub tried-small : {b : Bool} {q : Quad} {touched : ℕ} {c c' w w' : List ℕ} {x : ℕ} → Tried b q touched c c' w w' x → x ≤ 1
-tried-small {b} {q} {touched} {c} {c'} {w} {w'} {x} t = byte_most b x t.count
 
 -- the sides from i on, of the `count` whose places stand from `sides` on
 abbrev rest : List ℕ → List ℕ → ℕ → ℕ → ℕ → List Side
@@ -122,7 +117,7 @@ module _ (s : Scene) (c ls : List ℕ) (p : ℕ) (w : List ℕ) (across begun ke
       let n = I.corners in
       (z, omega arith)
 
-  module _ (l : i < count) (k : ℕ) (e : k ≡ at w₁ (sides + i)) (c₂ w₂ : List ℕ) (x : ℕ) (t : Tried (decides_at s ls p (length c₁) across begun kept touched w₁ k) (quad_in p (length c₁) begun w₁ k) touched c₁ c₂ w₁ w₂ x) where
+  module _ (l : i < count) (k : ℕ) (e : k ≡ at w₁ (sides + i)) (c₂ w₂ : List ℕ) (f : Bool) (x : ℕ) (one-more : x ≡ bool_byte f) (t : Tried (decides_at s ls p (length c₁) across begun kept touched w₁ k) (quad_in p (length c₁) begun w₁ k) touched c₁ c₂ w₁ w₂ f) where
     k-low : k < length c
     k-low = let m = (flip-place l k e).1 in let n = I.corners in omega arith
 
@@ -180,8 +175,8 @@ module _ (s : Scene) (c ls : List ℕ) (p : ℕ) (w : List ℕ) (across begun ke
         let d = side_at c k in
         let more = rest c w sides count (i + 1) in
         let few = I.few in
-        let b1 = tried-small t in
-        let n = t.count in
+        let b1 = bit_most f x one-more in
+        let n : x ≡ one (decides_at s ls p (length c₁) across begun kept touched w₁ k) = one-more ∙ bit_one f ∙ ap one t.flips in
         record {
           short = omega arith;
           few = omega arith;

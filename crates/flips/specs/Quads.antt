@@ -5,14 +5,15 @@ use Rattle.std.specs.Float.{inf}
 use Rattle.float.specs.Order.{lesser, greater}
 use Rattle.float.specs.Point.{plus}
 use Rattle.surface.specs.Triangle.{tri, triangles}
-use Rattle.surface.specs.Closed.{Closed, one, sides}
+use Rattle.surface.specs.Closed.{Closed, sides}
+use Rattle.surface.specs.Flat.{put_at}
 use Rattle.halfedges.specs.Place.{nx, pv, at, uses}
 use Rattle.halfedges.specs.Free.{Free}
 use Rattle.sides.specs.Side.{Twin}
 use Rattle.sorting.specs.Stable.{part}
 use Rattle.oracle.specs.Number.{gain_least, shape_enough}
 use Rattle.oracle.specs.Scene.{Scene, score}
-use Rattle.scores.specs.Words.{float_at, Kept}
+use Rattle.scores.specs.Words.{float_at, Held, Kept}
 use Rattle.oracle.specs.Gains.{helps}
 use Rattle.rounds.specs.Choices.{flip_start, flip_pass, flips_of}
 use Rattle.scores.specs.Measures.{score_at, side_at}
@@ -31,6 +32,14 @@ quad_at corner k t = cond (ltb t k) (quad_of corner t k) (quad_of corner k t)
 abbrev pub begun_at : List ℕ → ℕ → ℕ → ℕ → ℕ
 begun_at w begun n k = at (part w begun n) k
 
+-- the words of the four corners, from `base` on, are among the first n
+abbrev pub Words : ℕ → Quad → ℕ → Type 0
+Words base q n = (base + q.u < n) × (base + q.v < n) × (base + q.c < n) × (base + q.d < n)
+
+-- the three numbers of each of the four corners are in a list of n
+abbrev pub Pointed : Quad → ℕ → Type 0
+Pointed q n = (q.u * 3 + 2 < n) × (q.v * 3 + 2 < n) × (q.c * 3 + 2 < n) × (q.d * 3 + 2 < n)
+
 -- a corner of the four is touched
 abbrev pub touches : List ℕ → ℕ → Quad → Bool
 touches w touched q =
@@ -43,6 +52,10 @@ evens_at w degrees q = ltb (at w (degrees + q.c) + at w (degrees + q.d) + 2) (at
 -- by the shapes in the words from `kept` on, two for each triangle
 abbrev pub before_at : List ℕ → ℕ → Quad → Float
 before_at w kept q = lesser (float_at w (kept + q.one * 2)) (float_at w (kept + q.two * 2))
+
+-- both triangles have their two words there
+abbrev pub BothHeld : List ℕ → ℕ → Quad → Type 0
+BothHeld w kept q = Held w (kept + q.one * 2) × Held w (kept + q.two * 2)
 
 -- the shape of the first triangle that a flip makes, where it has one, and the worse of both
 abbrev pub first_of : Scene → Quad → ℕ → Float
@@ -66,12 +79,9 @@ unfolding improves_at
 decides s ls w degrees across kept touched q =
     eqb (get_or ls q.one 0) (get_or ls q.two 0) && (not (touches w touched q) && (eqb (at w (across + q.across)) 0 && improves_at s w degrees kept q (get_or ls q.one 0)))
 
--- the corners of the triangle i become x, y, z
-abbrev pub put_tri : List ℕ → ℕ → ℕ → ℕ → ℕ → List ℕ
-put_tri c i x y z = set (set (set c (i * 3) x) (i * 3 + 1) y) (i * 3 + 2) z
-
+-- the earlier triangle becomes [c, d, v], and the later one [d, c, u]
 abbrev pub flip_corners : Quad → List ℕ → List ℕ
-flip_corners q c = put_tri (put_tri c q.one q.c q.d q.v) q.two q.d q.c q.u
+flip_corners q c = put_at (put_at c q.one (tri q.c q.d q.v)) q.two (tri q.d q.c q.u)
 
 abbrev pub touch_four : ℕ → Quad → List ℕ → List ℕ
 touch_four touched q w = set (set (set (set w (touched + q.u) 1) (touched + q.v) 1) (touched + q.c) 1) (touched + q.d) 1
@@ -113,10 +123,10 @@ abbrev pub decides_at : Scene → List ℕ → ℕ → ℕ → ℕ → ℕ → �
 decides_at s ls p n across begun kept touched w k = decides s ls w p across kept touched (quad_in p n begun w k)
 
 -- after a side is tried: it is flipped where b says so
-pub record Tried (b : Bool) (q : Quad) (touched : ℕ) (c c' w w' : List ℕ) (r : ℕ) : Type 0 where
+pub record Tried (b : Bool) (q : Quad) (touched : ℕ) (c c' w w' : List ℕ) (r : Bool) : Type 0 where
   pub corners : c' ≡ cond b (flip_corners q c) c
   pub words : w' ≡ cond b (touch_four touched q w) w
-  pub count : r ≡ one b
+  pub flips : r ≡ b
 
 -- the shapes of the first n triangles are kept, and no other word changes
 pub record Shaped (s : Scene) (c ls : List ℕ) (kept : ℕ) (w w' : List ℕ) (n : ℕ) : Type 0 where

@@ -8,6 +8,8 @@ use borrow.Author.Tests.{le-leb, lt-leb}
 use lib.Dec.{T, leb, ltb, leb→le, nleb→lt, ltb→lt, nltb→le}
 use mir.Val.{bool_byte}
 use Rattle.float.specs.Root.{nearest_root}
+use Rattle.std.specs.Prelude.{None, Some}
+use Rattle.std.proofs.lemmas.Option.{none-some, same_Some}
 use Rattle.float.specs.Guess.{if_beside}
 use Rattle.float.proofs.Digit.{sq_add-one}
 use Rattle.float.proofs.Between.{Between, nearest-between, between-nearest, more_than, at_most, sq_less-one}
@@ -45,27 +47,27 @@ module _ (g : ℕ) (small : g < 2 ^ 53) where
 
 -- ---- `if_beside`
 
-pub beside-is : (g q : ℕ) → (if_beside g q ≡ 0 → ⊥) → if_beside g q ≡ q
+pub beside-is : (g q r : ℕ) → Some r ≡ if_beside g q → r ≡ q
 unfolding if_beside
-beside-is g q h = go (leb q (g + 1) && leb g (q + 1)) h
+beside-is g q r e = go (leb q (g + 1) && leb g (q + 1)) e
   where
-    go : (t : Bool) → (cond t q 0 ≡ 0 → ⊥) → cond t q 0 ≡ q
-    go true n = refl
-    go false n = absurd (n refl)
+    go : (t : Bool) → Some r ≡ cond t (Some q) None → r ≡ q
+    go true e = same_Some r q e
+    go false e = absurd (none-some r (sym e))
 
-beside : (g q : ℕ) → q ≤ g + 1 → g ≤ q + 1 → q ≡ if_beside g q
+beside : (g q : ℕ) → q ≤ g + 1 → g ≤ q + 1 → Some q ≡ if_beside g q
 unfolding if_beside
 beside g q a b = rw (le-leb q (g + 1) a, le-leb g (q + 1) b)
 
-too_low : (g q : ℕ) → g + 1 < q → 0 ≡ if_beside g q
+too_low : (g q : ℕ) → g + 1 < q → None ≡ if_beside g q
 unfolding if_beside
 too_low g q a = rw (lt-leb q (g + 1) a)
 
-too_high : (g q : ℕ) → q + 1 < g → 0 ≡ if_beside g q
+too_high : (g q : ℕ) → q + 1 < g → None ≡ if_beside g q
 unfolding if_beside
 too_high g q a = go (leb q (g + 1)) (lt-leb g (q + 1) a)
   where
-    go : (t : Bool) → leb g (q + 1) ≡ false → 0 ≡ cond (t && leb g (q + 1)) q 0
+    go : (t : Bool) → leb g (q + 1) ≡ false → None ≡ cond (t && leb g (q + 1)) (Some q) None
     go true e = rw e
     go false e = refl
 
@@ -73,10 +75,10 @@ too_high g q a = go (leb q (g + 1)) (lt-leb g (q + 1) a)
 
 module _ (N g : ℕ) (two : 2 ≤ g) where
   -- beyond the midpoints of the three
-  pub none_above : g * g + 3 * g + 2 < N → 0 ≡ if_beside g (nearest_root N 0)
+  pub none_above : g * g + 3 * g + 2 < N → None ≡ if_beside g (nearest_root N 0)
   none_above h = too_low g (nearest_root N 0) (more_than (nearest-between N) (g + 1) (omega (arith, sq_add-one g)))
 
-  pub none_below : N + 3 * g ≤ g * g + 2 → 0 ≡ if_beside g (nearest_root N 0)
+  pub none_below : N + 3 * g ≤ g * g + 2 → None ≡ if_beside g (nearest_root N 0)
   none_below h = too_high g (nearest_root N 0) (under (at_most (nearest-between N) (g - 1 - 1) (omega (arith, sq_less-one g (omega arith), sq_less-one (g - 1) (omega arith)))))
     where
       under : nearest_root N 0 ≤ g - 1 - 1 → nearest_root N 0 + 1 < g
@@ -84,27 +86,27 @@ module _ (N g : ℕ) (two : 2 ≤ g) where
 
   -- p - q is N - g ^ 2 + g, as the code has it
   module _ (p q : ℕ) (e : p + g * g ≡ q + N + g) where
-    pub above-all : q + g * 4 + 2 < p → 0 ≡ if_beside g (nearest_root N 0)
+    pub above-all : q + g * 4 + 2 < p → None ≡ if_beside g (nearest_root N 0)
     above-all h = none_above (omega arith)
 
-    pub below_all : p + g * 2 ≤ q + 2 → 0 ≡ if_beside g (nearest_root N 0)
+    pub below_all : p + g * 2 ≤ q + 2 → None ≡ if_beside g (nearest_root N 0)
     below_all h = none_below (omega arith)
 
     module _ (low : q + 2 < p + g * 2) (high : p ≤ q + g * 4 + 2) where
-      found : (r : ℕ) → 1 ≤ r → r ≤ g + 1 → g ≤ r + 1 → Between N r → r ≡ if_beside g (nearest_root N 0)
-      found r one a b h = subst (λ (x : ℕ). r ≡ if_beside g x) (sym (between-nearest one h)) (beside g r a b)
+      found : (r : ℕ) → 1 ≤ r → r ≤ g + 1 → g ≤ r + 1 → Between N r → Some r ≡ if_beside g (nearest_root N 0)
+      found r one a b h = subst (λ (x : ℕ). Some r ≡ if_beside g x) (sym (between-nearest one h)) (beside g r a b)
 
       -- one below, g itself, one above
-      under : p ≤ q → g - 1 ≡ if_beside g (nearest_root N 0)
+      under : p ≤ q → Some (g - 1) ≡ if_beside g (nearest_root N 0)
       under h = found (g - 1) (omega arith) (omega arith) (omega arith) (record { over = λ o. omega (arith, sq_less-one g (omega arith)); under = omega (arith, sq_less-one g (omega arith)) })
 
-      same : q < p → p ≤ q + g * 2 → g ≡ if_beside g (nearest_root N 0)
+      same : q < p → p ≤ q + g * 2 → Some g ≡ if_beside g (nearest_root N 0)
       same h k = found g (omega arith) (omega arith) (omega arith) (record { over = λ o. omega arith; under = omega arith })
 
-      over : q + g * 2 < p → g + 1 ≡ if_beside g (nearest_root N 0)
+      over : q + g * 2 < p → Some (g + 1) ≡ if_beside g (nearest_root N 0)
       over h = found (g + 1) (omega arith) (omega arith) (omega arith) (record { over = λ o. omega (arith, sq_add-one g); under = omega (arith, sq_add-one g) })
 
-      pub one_of_three : g + bool_byte (ltb (q + g * 2) p) - bool_byte (leb p q) ≡ if_beside g (nearest_root N 0)
+      pub one_of_three : Some (g + bool_byte (ltb (q + g * 2) p) - bool_byte (leb p q)) ≡ if_beside g (nearest_root N 0)
       one_of_three = go (ltb (q + g * 2) p) (leb p q) (ltb→lt (q + g * 2) p) (nltb→le (q + g * 2) p) (leb→le p q) (nleb→lt p q)
         where
           less_one : g + 0 - 1 ≡ g - 1
@@ -119,11 +121,11 @@ module _ (N g : ℕ) (two : 2 ≤ g) where
           not_both : q + g * 2 < p → p ≤ q → ⊥
           not_both x y = omega arith
 
-          go : (s t : Bool) → (T s → q + g * 2 < p) → (T (not s) → p ≤ q + g * 2) → (T t → p ≤ q) → (T (not t) → q < p) → g + bool_byte s - bool_byte t ≡ if_beside g (nearest_root N 0)
+          go : (s t : Bool) → (T s → q + g * 2 < p) → (T (not s) → p ≤ q + g * 2) → (T t → p ≤ q) → (T (not t) → q < p) → Some (g + bool_byte s - bool_byte t) ≡ if_beside g (nearest_root N 0)
           go true true a b c d = absurd (not_both (a tt) (c tt))
-          go true false a b c d = one_more ∙ over (a tt)
-          go false true a b c d = less_one ∙ under (c tt)
-          go false false a b c d = itself ∙ same (d tt) (b tt)
+          go true false a b c d = ap Some one_more ∙ over (a tt)
+          go false true a b c d = ap Some less_one ∙ under (c tt)
+          go false false a b c d = ap Some itself ∙ same (d tt) (b tt)
 
 -- ---- the test's words: the square is h * 2 ^ 52 + l, and w * 2 ^ 52 is N
 

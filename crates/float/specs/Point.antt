@@ -1,9 +1,13 @@
 -- Points of space over f64, each operation rounded as IEEE 754 has it, in the order that is written. Definitions only.
 use Rattle.std.specs.Float.Ieee as Ieee
-use Rattle.std.specs.Prelude.{Float}
-use Rattle.std.specs.Float.{binary64}
+use Rattle.std.specs.Prelude.{ℕ, ◌+◌, ◌*◌, List, get_or, Float}
+use Rattle.std.specs.Float.{binary64, nan}
 use Rattle.float.specs.Root.{root}
 use Rattle.float.specs.declared.Point.{Point}
+
+-- the point of number i in a list, three coordinates each. (What stands past the end of the list is never read.)
+abbrev pub point_at : List Float → ℕ → Point
+point_at points i = record { x = get_or points (i * 3) nan; y = get_or points (i * 3 + 1) nan; z = get_or points (i * 3 + 2) nan }
 
 abbrev pub plus : Float → Float → Float
 plus a b = Ieee.add binary64 a b

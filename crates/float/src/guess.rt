@@ -38,16 +38,16 @@ pub fn guess(wide: u64) -> u64
     let x = fraction(wide);
     let half = 0.5 * x;
     let y = heron(half, heron(half, first(x)));
-    if y != y {
+    if y.is_nan() {
         return 0x10_0000_0000_0000;
     }
-    f64::to_bits(y) % 0x10_0000_0000_0000 + 0x10_0000_0000_0000
+    y.to_bits() % 0x10_0000_0000_0000 + 0x10_0000_0000_0000
 }
 
-// Of g and the numbers beside it, the one nearest to the root of wide * 2^52; 0 where none of the
-// three is. A number r is the nearest where r * r - r < wide * 2^52 <= r * r + r. The square of g is
+// Of g and the numbers beside it, the one nearest to the root of wide * 2^52, if one of the three
+// is. A number r is the nearest where r * r - r < wide * 2^52 <= r * r + r. The square of g is
 // high * 2^52 + low, by the halves of g, and up - down is wide * 2^52 - g * g + g.
-pub fn nearest_of_three(g: u64, wide: u64) -> u64
+pub fn nearest_of_three(g: u64, wide: u64) -> Option<u64>
     requires { (2 ^ 52 ≤ g) × (g < 2 ^ 53) × (wide < 2 ^ 54) }
     ensures { result ≡ if_beside g (nearest_root (wide * 2 ^ 52) 0) }
 {
@@ -57,21 +57,22 @@ pub fn nearest_of_three(g: u64, wide: u64) -> u64
     let high = a * a * 4 + c / 0x100_0000;
     let low = (c % 0x100_0000) * 0x1000_0000 + b * b;
     if wide + 8 < high {
-        return 0;
+        return None;
     }
     let u = wide + 8 - high;
     if 32 <= u {
-        return 0;
+        return None;
     }
     let up = u * 0x10_0000_0000_0000 + g;
     let down = low + 0x80_0000_0000_0000;
     if down + g * 4 + 2 < up {
-        return 0;
+        return None;
     }
     if up + g * 2 <= down + 2 {
-        return 0;
+        return None;
     }
+    // `as`, as in `digits`.
     let above = (down + g * 2 < up) as u64;
     let below = (up <= down) as u64;
-    g + above - below
+    Some(g + above - below)
 }

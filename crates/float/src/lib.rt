@@ -1,16 +1,16 @@
 // Square roots, the least and the greatest of floats, and points of space, over `f64`.
-// Each contract says what is returned in the logic's account of IEEE 754 (`lib.Ieee`), by a definition
+// Each contract says what is returned in the logic's account of IEEE 754 (`Rattle.std.specs.Float.Ieee`), by a definition
 // of `specs/`.
 #![tactic(auto)]
 
 pub mod guess;
 
-ghost use Rattle.std.specs.Prelude.{◌≡◌, ◌+◌, ◌-◌, ◌*◌, ◌^◌, ◌≤◌, ◌<◌};
+ghost use Rattle.std.specs.Prelude.{◌≡◌, ◌+◌, ◌-◌, ◌*◌, ◌^◌, ◌≤◌, ◌<◌, length};
 ghost use Rattle.std.specs.Float.{binary64};
 ghost use Rattle.float.specs.Digits.{recurrence};
 ghost use Rattle.float.specs.Root.{root, root_units, nearest_root};
 ghost use Rattle.float.specs.Order.{lesser, greater, within, is_finite};
-ghost use Rattle.float.specs.Point.{difference, dotted, crossed, normed};
+ghost use Rattle.float.specs.Point.{point_at, difference, dotted, crossed, normed};
 
 use guess::{guess, nearest_of_three};
 
@@ -20,15 +20,15 @@ use guess::{guess, nearest_of_three};
 // next digit is 1 where 4 * root + 1 goes into that. With no digit left, the root is rounded: the
 // digit after the last would be 1 exactly where the remainder is more than the root, and then the
 // exact root is above the midpoint. It is never at it.
-fn digits(mut left: u64, mut root: u64, mut rest: u64, mut bits: u64) -> u64
+fn digits(left: u64, mut root: u64, mut rest: u64, mut bits: u64) -> u64
     requires { (left ≤ 53) × (root < 2 ^ (53 - left)) × (rest ≤ 2 * root) }
     ensures { result ≡ recurrence left root rest bits }
 {
-    while left > 0 {
+    for _ in 0..left {
         let next = rest * 4 + (bits >> 62);
         let trial = root * 4 + 1;
+        // `as`: the proof reads the digit as a term, and the result of `u64::from` as a call's.
         let digit = (trial <= next) as u64;
-        left -= 1;
         root = root * 2 + digit;
         rest = next - trial * digit;
         bits = bits << 2;
@@ -42,8 +42,7 @@ fn nearest_root(wide: u64) -> u64
     requires { (2 ^ 52 ≤ wide) × (wide ≤ 2 ^ 54 - 2) }
     ensures { (result ≡ nearest_root (wide * 2 ^ 52) 0) × (2 ^ 52 ≤ result) × (result < 2 ^ 53) }
 {
-    let r = nearest_of_three(guess(wide), wide);
-    if r != 0 {
+    if let Some(r) = nearest_of_three(guess(wide), wide) {
         return r;
     }
     digits(53, 0, 0, wide << 10)
@@ -62,10 +61,10 @@ fn scaled(m: u64, k: u64) -> f64
 pub fn sqrt(x: f64) -> f64
     ensures { result ≡ root binary64 x }
 {
-    if x != x {
+    if x.is_nan() {
         return x;
     }
-    let b = f64::to_bits(x);
+    let b = x.to_bits();
     if b >= 0x8000_0000_0000_0000 {
         if b == 0x8000_0000_0000_0000 {
             return x; // -0
@@ -80,7 +79,7 @@ pub fn sqrt(x: f64) -> f64
     }
     if b < 0x10_0000_0000_0000 {
         // A subnormal number: its digits are moved up to full width.
-        let shift = (u64::leading_zeros(b) - 11) as u64;
+        let shift = u64::from(b.leading_zeros() - 11);
         return scaled(b << shift, 54 - shift);
     }
     scaled(
@@ -90,11 +89,12 @@ pub fn sqrt(x: f64) -> f64
 }
 
 // The lesser of two floats. Where one is NaN it is the other, and where they are equal, as -0.0 and
-// 0.0 are, it is the first.
+// 0.0 are, it is the first: Rust's `min` leaves open which of them. `max` is a twin by its one
+// comparison, and a function over the comparison would be no shorter than the two.
 pub fn min(a: f64, b: f64) -> f64
     ensures { result ≡ lesser a b }
 {
-    if a != a {
+    if a.is_nan() {
         return b;
     }
     if b < a { b } else { a }
@@ -105,7 +105,7 @@ pub fn min(a: f64, b: f64) -> f64
 pub fn max(a: f64, b: f64) -> f64
     ensures { result ≡ greater a b }
 {
-    if a != a {
+    if a.is_nan() {
         return b;
     }
     if a < b { b } else { a }
@@ -122,20 +122,32 @@ pub fn clamp(a: f64, lo: f64, hi: f64) -> f64
     if hi < a { hi } else { a }
 }
 
-// Whether x is neither an infinity nor NaN.
+// Whether x is neither an infinity nor NaN. (By the definition of `specs/Order.antt`, which the callers'
+// proofs use: std's method is by another.)
 pub fn is_finite(x: f64) -> bool
     ensures { result ≡ is_finite x }
 {
-    let top = f64::from_bits(0x7ff0_0000_0000_0000);
-    if x < top { -top < x } else { false }
+    x.is_finite()
 }
 
 // A point or a vector of space.
-#[derive(Clone, Copy)]
+#[derive(Clone, Copy, Debug, PartialEq)]
 pub struct Point {
     pub x: f64,
     pub y: f64,
     pub z: f64,
+}
+
+// Point i of a list, three coordinates each.
+pub fn point_at(points: &[f64], i: usize) -> Point
+    requires { i * 3 + 2 < length points.now }
+    ensures { result ≡ point_at points.now i }
+{
+    Point {
+        x: points[i * 3],
+        y: points[i * 3 + 1],
+        z: points[i * 3 + 2],
+    }
 }
 
 impl Point {

@@ -4,6 +4,8 @@ use native.Mathlib.Omega.{arith}
 use mathlib.Core.Path.{◌≡◌, refl, sym, ap, ◌∙◌, subst}
 use mathlib.Core.Bool.{Bool, true, false, cond}
 use mathlib.Core.List.{List}
+use Rattle.std.specs.Prelude.{Option, None, Some}
+use Rattle.std.proofs.lemmas.Option.{none-some, same_Some}
 use lib.Dec.{eqb}
 use lib.ListN.{length}
 use borrow.Author.Tests.{eqb-true, eqb-false, eq-eqb, ne_eqb}
@@ -78,20 +80,20 @@ unfolding last
 last-zero c v = refl
 
 -- the hops by the notes of v
-hop_own : (p v : ℕ) (w : List ℕ) (x y : ℕ) → hop_to p v w x ≡ suc y → (stamp p w x ≡ suc v) × (note p w x ≡ y)
+hop_own : (p v : ℕ) (w : List ℕ) (x y : ℕ) → hop_to p v w x ≡ Some y → (stamp p w x ≡ suc v) × (note p w x ≡ y)
 hop_own p v w x y h = go (eqb (stamp p w x) (suc v)) refl h
   where
-    go : (b : Bool) → eqb (stamp p w x) (suc v) ≡ b → follower b (note p w x) ≡ suc y → (stamp p w x ≡ suc v) × (note p w x ≡ y)
-    go true e q = (eqb-true (stamp p w x) (suc v) e, omega arith)
-    go false e q = absurd (omega arith)
+    go : (b : Bool) → eqb (stamp p w x) (suc v) ≡ b → follower b (note p w x) ≡ Some y → (stamp p w x ≡ suc v) × (note p w x ≡ y)
+    go true e q = (eqb-true (stamp p w x) (suc v) e, same_Some (note p w x) y q)
+    go false e q = absurd (none-some y q)
 
-pub hop_yes : (p v : ℕ) (w : List ℕ) (x : ℕ) → stamp p w x ≡ suc v → hop_to p v w x ≡ suc (note p w x)
+pub hop_yes : (p v : ℕ) (w : List ℕ) (x : ℕ) → stamp p w x ≡ suc v → hop_to p v w x ≡ Some (note p w x)
 hop_yes p v w x e = ap (λ (b : Bool). follower b (note p w x)) (eq-eqb (stamp p w x) (suc v) e)
 
-pub hop_no : (p v : ℕ) (w : List ℕ) (x : ℕ) → (stamp p w x ≡ suc v → ⊥) → hop_to p v w x ≡ 0
+pub hop_no : (p v : ℕ) (w : List ℕ) (x : ℕ) → (stamp p w x ≡ suc v → ⊥) → hop_to p v w x ≡ None
 hop_no p v w x e = ap (λ (b : Bool). follower b (note p w x)) (ne_eqb (stamp p w x) (suc v) e)
 
-pub hop_below : (p v : ℕ) (w : List ℕ) (x y : ℕ) → Inside p v w → x < p → hop_to p v w x ≡ suc y → y < p
+pub hop_below : (p v : ℕ) (w : List ℕ) (x y : ℕ) → Inside p v w → x < p → hop_to p v w x ≡ Some y → y < p
 hop_below p v w x y inside l q = let o = hop_own p v w x y q in omega (arith, o.1, inside.stays x l o.0)
 
 module _ (c : List ℕ) (p : ℕ) (w : List ℕ) (v : ℕ) (sized : Sized c p w) (noted : Noted c p w v 0) where
@@ -109,7 +111,7 @@ module _ (c : List ℕ) (p : ℕ) (w : List ℕ) (v : ℕ) (sized : Sized c p w)
         let u = noted.found x l o.0 in
         record { k = u.k; past = u.past; low = u.low; names = u.names; leaves = u.leaves; lands = u.lands ∙ o.1 };
     within = λ x y l q. hop_below p v w x y inside_of l q;
-    finds = λ k l e. hop_yes p v w (at c (nx k)) (noted.known k (omega arith) l e) ∙ ap suc (noted.noted k (omega arith) l e);
+    finds = λ k l e. hop_yes p v w (at c (nx k)) (noted.known k (omega arith) l e) ∙ ap Some (noted.noted k (omega arith) l e);
   }
 
   pub fine_walked : (x₀ n : ℕ) → x₀ < p → n ≡ uses c v (length c) → trip (hop_to p v w) x₀ n x₀ ≡ true → Fine c v
@@ -128,21 +130,21 @@ pub fine-empty : (c : List ℕ) (v : ℕ) → last c v (length c) ≡ 0 → Fine
 fine-empty c v e = fine-unused c v (length_pl c v (length c) ∙ sym (uses-last c v (length c)) ∙ ap (uses c v) e ∙ uses-zero c v)
 
 -- the turns of a walk
-pub trip-none : (h : ℕ → ℕ) (x₀ n x : ℕ) → n ≡ 0 → trip h x₀ n x ≡ false
+pub trip-none : (h : ℕ → Option ℕ) (x₀ n x : ℕ) → n ≡ 0 → trip h x₀ n x ≡ false
 unfolding trip
 trip-none h x₀ n x e = ap (λ (m : ℕ). trip h x₀ m x) e
 
-pub trip_stop : (h : ℕ → ℕ) (x₀ n x : ℕ) → h x ≡ 0 → trip h x₀ n x ≡ false
+pub trip_stop : (h : ℕ → Option ℕ) (x₀ n x : ℕ) → h x ≡ None → trip h x₀ n x ≡ false
 unfolding trip
 trip_stop h x₀ zero x e = refl
 trip_stop h x₀ (suc n) x e = ap (landed (trip h x₀ n) x₀ n) e
 
-pub trip_home : (h : ℕ → ℕ) (x₀ n f x y : ℕ) → n ≡ suc f → h x ≡ suc y → y ≡ x₀ → trip h x₀ n x ≡ eqb f 0
+pub trip_home : (h : ℕ → Option ℕ) (x₀ n f x y : ℕ) → n ≡ suc f → h x ≡ Some y → y ≡ x₀ → trip h x₀ n x ≡ eqb f 0
 unfolding trip
 trip_home h x₀ n f x y e q z =
     ap (λ (m : ℕ). trip h x₀ m x) e ∙ ap (landed (trip h x₀ f) x₀ f) q ∙ ap (λ (b : Bool). cond b (eqb f 0) (trip h x₀ f y)) (eq-eqb y x₀ z)
 
-pub trip-on : (h : ℕ → ℕ) (x₀ n f x y : ℕ) → n ≡ suc f → h x ≡ suc y → (y ≡ x₀ → ⊥) → trip h x₀ n x ≡ trip h x₀ f y
+pub trip-on : (h : ℕ → Option ℕ) (x₀ n f x y : ℕ) → n ≡ suc f → h x ≡ Some y → (y ≡ x₀ → ⊥) → trip h x₀ n x ≡ trip h x₀ f y
 unfolding trip
 trip-on h x₀ n f x y e q z =
     ap (λ (m : ℕ). trip h x₀ m x) e ∙ ap (landed (trip h x₀ f) x₀ f) q ∙ ap (λ (b : Bool). cond b (eqb f 0) (trip h x₀ f y)) (ne_eqb y x₀ z)

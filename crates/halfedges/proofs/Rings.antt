@@ -6,6 +6,7 @@ use mathlib.Core.Logic.{inl, inr, ⊎_elim}
 use mathlib.Core.Bool.{Bool, true, false, cond}
 use mathlib.Core.List.Permᴰ
 use mathlib.Core.List.{List, [], ◌∷◌, ◌++◌}
+use Rattle.std.specs.Prelude.{Option, None, Some}
 use lib.Dec.{eqb}
 use lib.ListN.{length}
 use borrow.Author.Tests.{eqb-true, eq-eqb, ne_eqb}
@@ -18,7 +19,7 @@ no : {A : Type 0} → false ≡ true → A
 no e = let z : ◌≡◌ {A = ℕ} 0 1 = cc in absurd (omega arith)
 
 -- a trip home from one place has one length
-pub trip-once : (h : ℕ → ℕ) (x₀ f g x : ℕ) → trip h x₀ f x ≡ true → trip h x₀ g x ≡ true → f ≡ g
+pub trip-once : (h : ℕ → Option ℕ) (x₀ f g x : ℕ) → trip h x₀ f x ≡ true → trip h x₀ g x ≡ true → f ≡ g
 unfolding trip
 trip-once h x₀ zero g x p q = no p
 trip-once h x₀ (suc f) zero x p q = no q
@@ -28,18 +29,18 @@ trip-once h x₀ (suc f) (suc g) x p q = ap suc (go (trip-once h x₀ f g) (h x)
     from ih true j p q = eqb-true f 0 p ∙ sym (eqb-true g 0 q)
     from ih false j p q = ih j p q
 
-    go : ((j : ℕ) → trip h x₀ f j ≡ true → trip h x₀ g j ≡ true → f ≡ g) → (m : ℕ) → landed (trip h x₀ f) x₀ f m ≡ true → landed (trip h x₀ g) x₀ g m ≡ true → f ≡ g
-    go ih zero p q = no p
-    go ih (suc j) p q = from ih (eqb j x₀) j p q
+    go : ((j : ℕ) → trip h x₀ f j ≡ true → trip h x₀ g j ≡ true → f ≡ g) → (m : Option ℕ) → landed (trip h x₀ f) x₀ f m ≡ true → landed (trip h x₀ g) x₀ g m ≡ true → f ≡ g
+    go ih None p q = no p
+    go ih (Some j) p q = from ih (eqb j x₀) j p q
 
 -- what a hop around v is: from where a place of v steps off to where it lands
-pub record Hops (c : List ℕ) (p v : ℕ) (h : ℕ → ℕ) : Type 0 where
-  pub lands : (x y : ℕ) → x < p → h x ≡ suc y → Steps c v 0 x y
-  pub within : (x y : ℕ) → x < p → h x ≡ suc y → y < p
-  pub finds : (k : ℕ) → k < length c → at c k ≡ v → h (at c (nx k)) ≡ suc (at c (pv k))
+pub record Hops (c : List ℕ) (p v : ℕ) (h : ℕ → Option ℕ) : Type 0 where
+  pub lands : (x y : ℕ) → x < p → h x ≡ Some y → Steps c v 0 x y
+  pub within : (x y : ℕ) → x < p → h x ≡ Some y → y < p
+  pub finds : (k : ℕ) → k < length c → at c k ≡ v → h (at c (nx k)) ≡ Some (at c (pv k))
 
 -- a step of a walk, from where the trip home is at most f long
-pub record Walked (c : List ℕ) (v : ℕ) (h : ℕ → ℕ) (x₀ f : ℕ) (s : Step) : Type 0 where
+pub record Walked (c : List ℕ) (v : ℕ) (h : ℕ → Option ℕ) (x₀ f : ℕ) (s : Step) : Type 0 where
   pub k : ℕ
   pub low : k < length c
   pub names : at c k ≡ v
@@ -48,14 +49,14 @@ pub record Walked (c : List ℕ) (v : ℕ) (h : ℕ → ℕ) (x₀ f : ℕ) (s :
   pub most : left ≤ f
   pub home : trip h x₀ left (at c (nx k)) ≡ true
 
-pub record Walk (c : List ℕ) (v : ℕ) (h : ℕ → ℕ) (x₀ x f : ℕ) : Type 0 where
+pub record Walk (c : List ℕ) (v : ℕ) (h : ℕ → Option ℕ) (x₀ x f : ℕ) : Type 0 where
   pub path : List Step
   pub size : length path ≡ f
   pub leads : Leads x path x₀
   pub walked : (s : Step) → In s path → Walked c v h x₀ f s
   pub apart : Apart path
 
-module _ (c : List ℕ) (p v : ℕ) (h : ℕ → ℕ) (x₀ : ℕ) (hops : Hops c p v h) where
+module _ (c : List ℕ) (p v : ℕ) (h : ℕ → Option ℕ) (x₀ : ℕ) (hops : Hops c p v h) where
   -- the last hop, and a hop before it
   last-walk : (x y : ℕ) → Steps c v 0 x y → y ≡ x₀ → trip h x₀ 1 x ≡ true → Walk c v h x₀ x 1
   unfolding Leads
@@ -97,15 +98,15 @@ module _ (c : List ℕ) (p v : ℕ) (h : ℕ → ℕ) (x₀ : ℕ) (hops : Hops 
   walk_of zero x l t = no t
   walk_of (suc f) x l t = go (walk_of f) (h x) refl
     where
-      from : ((i : ℕ) → i < p → trip h x₀ f i ≡ true → Walk c v h x₀ i f) → (y : ℕ) → h x ≡ suc y → (b : Bool) → eqb y x₀ ≡ b → cond b (eqb f 0) (trip h x₀ f y) ≡ true → Walk c v h x₀ x (suc f)
+      from : ((i : ℕ) → i < p → trip h x₀ f i ≡ true → Walk c v h x₀ i f) → (y : ℕ) → h x ≡ Some y → (b : Bool) → eqb y x₀ ≡ b → cond b (eqb f 0) (trip h x₀ f y) ≡ true → Walk c v h x₀ x (suc f)
       from ih y q true z e =
           let f0 = eqb-true f 0 e in
           subst (λ (g : ℕ). Walk c v h x₀ x (suc g)) (sym f0) (last-walk x y (hops.lands x y l q) (eqb-true y x₀ z) (subst (λ (g : ℕ). trip h x₀ (suc g) x ≡ true) f0 t))
       from ih y q false z e = more-walk x y f (hops.lands x y l q) t (ih y (hops.within x y l q) e)
 
-      go : ((i : ℕ) → i < p → trip h x₀ f i ≡ true → Walk c v h x₀ i f) → (m : ℕ) → h x ≡ m → Walk c v h x₀ x (suc f)
-      go ih zero q = no (ap (landed (trip h x₀ f) x₀ f) (sym q) ∙ t)
-      go ih (suc y) q = from ih y q (eqb y x₀) refl (ap (landed (trip h x₀ f) x₀ f) (sym q) ∙ t)
+      go : ((i : ℕ) → i < p → trip h x₀ f i ≡ true → Walk c v h x₀ i f) → (m : Option ℕ) → h x ≡ m → Walk c v h x₀ x (suc f)
+      go ih None q = no (ap (landed (trip h x₀ f) x₀ f) (sym q) ∙ t)
+      go ih (Some y) q = from ih y q (eqb y x₀) refl (ap (landed (trip h x₀ f) x₀ f) (sym q) ∙ t)
 
   -- so the steps of v are a ring, and no two start at one corner
   pub record Round : Type 0 where

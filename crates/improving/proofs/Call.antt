@@ -7,23 +7,22 @@ use mathlib.Core.List.{List, ◌++◌}
 use lib.Dec.{leb}
 use lib.Ieee.{Float}
 use lib.ListN.{length, take, drop, replicate, length-replicate}
-use lib.Seq.{drop_at, length_front, length-take-le}
+use lib.Seq.{drop_at, length-take-le}
 use borrow.Author.Tests.{le-leb, lt-leb}
 use Rattle.field.specs.Valid.{sheet_ok}
 use Rattle.questions.specs.Questions.{needed, ask, and_then, cleared, work_after, Admits}
-use Rattle.questions.specs.Refusal.{refusal_number, asked_number}
+use Rattle.questions.specs.Refusal.{Asked, refusal_number, asked_number}
 use Rattle.questions.specs.Admitted.{Admitted}
 use Rattle.questions.specs.declared.Refusal.{Refusal}
-use Rattle.questions.specs.declared.Refusal.TheVariants.{Question}
-use Rattle.questions.specs.declared.Asked.{Asked}
-use Rattle.questions.specs.declared.Asked.TheVariants as asked
+use Rattle.questions.specs.declared.Refusal.TheVariants.{FieldSheet, Rounds}
+use Rattle.std.specs.Prelude.{Ok, Err}
 use Rattle.questions.proofs.Laws.{passed_admitted}
 use Rattle.oracle.specs.Round.{Result, count}
 use Rattle.oracle.proofs.Safe.{safe-after}
 use Rattle.flips.specs.Whole.{mesh_of, sheet_of}
 use Rattle.improving.specs.Rounded.{Improvable, Rounded}
-use Rattle.improving.specs.Improve.{improve_questions, improved, answer_of, Improving}
-use Rattle.improving.specs.declared.Outcome.TheVariants.{Improved, Refused}
+use Rattle.improving.specs.Improve.{improve_questions, improved, left_of, answer_of, Improving}
+use Rattle.improving.specs.declared.Left.{Left}
 use Rattle.improving.proofs.Running.{fine-first}
 
 -- a surface that passes the questions may be improved, with the needed words
@@ -43,7 +42,7 @@ improvable_in {ps} {c} {ls} a v r =
 pub improvable_of : {ps : List Float} {c ls w : List ℕ} → Admitted ps c ls w → Improvable ps c ls w
 improvable_of {w = w} a = improvable_in a w a.enough-words
 
-module _ {ps : List Float} {c ls w w' : List ℕ} {a : Asked} (d : Admits ps c ls w w' a) (z : a ≡ asked.Passed) (same : length w' ≡ length w) where
+module _ {ps : List Float} {c ls w w' : List ℕ} {a : Asked} (d : Admits ps c ls w w' a) (z : a ≡ Ok tt) (same : length w' ≡ length w) where
   admits : Admitted ps c ls w
   admits = passed_admitted ps c ls w (sym d.answer ∙ z)
 
@@ -53,20 +52,16 @@ module _ {ps : List Float} {c ls w w' : List ℕ} {a : Asked} (d : Admits ps c l
   pub handed : Improvable ps c ls (take (length c / 3 * 32 + length ps / 3 * 16) w')
   handed = improvable_in admits _ (let x = length-take-le (length c / 3 * 32 + length ps / 3 * 16) w' room in omega arith)
 
-  -- the rounds leave as many words as they are lent
-  pub words-stay : (v : List ℕ) → length v ≡ length (take (length c / 3 * 32 + length ps / 3 * 16) w') → length c / 3 * 32 + length ps / 3 * 16 ≤ length (v ++ drop (length c / 3 * 32 + length ps / 3 * 16) w')
-  words-stay v e = let x = length_front w' v (length c / 3 * 32 + length ps / 3 * 16) e in let y = room in omega arith
-
 module _ (ps : List Float) (c ls w : List ℕ) (qs : List Float) (ns : List ℕ) (levels bounds : List Float) (n : ℕ) where
   abbrev r : Result
   r = improved ps c ls qs ns n
 
   abbrev last-two : Bool → Bool → Asked
-  last-two s t = ask s 13 (ask t 14 asked.Passed)
+  last-two s t = ask s FieldSheet (ask t Rounds (Ok tt))
 
   -- a call is refused
-  refused : (why : Refusal) → improve_questions ps c ls w qs ns levels bounds n ≡ asked.Refused why → {w' : List ℕ} → w' ≡ work_after (refusal_number why) ps c w
-      → Improving ps c ls w qs ns levels bounds n ps c ls w' (Refused why)
+  refused : (why : Refusal) → improve_questions ps c ls w qs ns levels bounds n ≡ Err why → {w' : List ℕ} → w' ≡ work_after (refusal_number why) ps c w
+      → Improving ps c ls w qs ns levels bounds n ps c ls w' (Err why)
   refused why e f = record { answer = sym (ap (λ (q : Asked). answer_of q r) e); points = refl; corners = refl; labels = refl; work = f }
 
   module _ {a : Asked} {w' : List ℕ} (d : Admits ps c ls w w' a) where
@@ -78,21 +73,21 @@ module _ (ps : List Float) (c ls w : List ℕ) (qs : List Float) (ns : List ℕ)
     words_are e = d.words ∙ ap (λ (q : Asked). work_after (asked_number q) ps c w) e
 
     -- by a question about the surface
-    pub refused_surface : {why : Refusal} → a ≡ asked.Refused why → Improving ps c ls w qs ns levels bounds n ps c ls w' (Refused why)
+    pub refused_surface : {why : Refusal} → a ≡ Err why → Improving ps c ls w qs ns levels bounds n ps c ls w' (Err why)
     refused_surface {why} e = refused why (answer-is e) (words_are e)
 
-  module _ {a : Asked} {w' : List ℕ} (d : Admits ps c ls w w' a) (z : a ≡ asked.Passed) where
+  module _ {a : Asked} {w' : List ℕ} (d : Admits ps c ls w w' a) (z : a ≡ Ok tt) where
     cleared-words : w' ≡ cleared (needed ps c) w
     cleared-words = words_are d z
 
     -- by question 13
-    pub no_sheet : sheet_ok qs ns levels bounds ≡ false → Improving ps c ls w qs ns levels bounds n ps c ls w' (Refused (Question 13))
-    no_sheet s = refused (Question 13) (answer-is d z ∙ ap (λ (t : Bool). last-two t (leb n 1000)) s) cleared-words
+    pub no_sheet : sheet_ok qs ns levels bounds ≡ false → Improving ps c ls w qs ns levels bounds n ps c ls w' (Err FieldSheet)
+    no_sheet s = refused FieldSheet (answer-is d z ∙ ap (λ (t : Bool). last-two t (leb n 1000)) s) cleared-words
 
     module _ (s : sheet_ok qs ns levels bounds ≡ true) where
       -- by question 14
-      pub too_many : 1000 < n → Improving ps c ls w qs ns levels bounds n ps c ls w' (Refused (Question 14))
-      too_many l = refused (Question 14) (answer-is d z ∙ ap₂ last-two s (lt-leb n 1000 l)) cleared-words
+      pub too_many : 1000 < n → Improving ps c ls w qs ns levels bounds n ps c ls w' (Err Rounds)
+      too_many l = refused Rounds (answer-is d z ∙ ap₂ last-two s (lt-leb n 1000 l)) cleared-words
 
       -- or the rounds have come to their end, and the needed words are cleared
       module _ (l : n ≤ 1000) (same : length w' ≡ length w) where
@@ -102,7 +97,7 @@ module _ (ps : List Float) (c ls w : List ℕ) (qs : List Float) (ns : List ℕ)
         need_is : length c / 3 * 32 + length ps / 3 * 16 ≡ needed ps c
         need_is = omega arith
 
-        all-passed : improve_questions ps c ls w qs ns levels bounds n ≡ asked.Passed
+        all-passed : improve_questions ps c ls w qs ns levels bounds n ≡ Ok tt
         all-passed = answer-is d z ∙ ap₂ last-two s (le-leb n 1000 l)
 
         further : (v : List ℕ) → length v ≡ length (take need w') → drop need (v ++ drop need w') ≡ drop need w
@@ -112,17 +107,18 @@ module _ (ps : List Float) (c ls w : List ℕ) (qs : List Float) (ns : List ℕ)
             ∙ drop_at (replicate (needed ps c) 0) (drop (needed ps c) w) need (length-replicate (needed ps c) 0 ∙ sym need_is)
             ∙ ap (λ (k : ℕ). drop k w) (sym need_is)
 
-        pub improves : {ps' : List Float} {c' ls' w₃ : List ℕ} {p t k : ℕ} → Rounded (improved ps c ls qs ns n) (49152 * n) ps c ls ps' c' ls' p t k
+        pub improves : {ps' : List Float} {c' ls' w₃ : List ℕ} (left : Left) → Rounded (improved ps c ls qs ns n) (49152 * n) ps c ls ps' c' ls' left.points left.triangles left.flips
             → (v : List ℕ) → length v ≡ length (take (length c / 3 * 32 + length ps / 3 * 16) w')
             → w₃ ≡ replicate (length c / 3 * 32 + length ps / 3 * 16) 0 ++ drop (length c / 3 * 32 + length ps / 3 * 16) (v ++ drop (length c / 3 * 32 + length ps / 3 * 16) w')
-            → Improving ps c ls w qs ns levels bounds n ps' c' ls' w₃ (Improved p t k)
-        improves {p = p} {t} {k} x v e g =
+            → Improving ps c ls w qs ns levels bounds n ps' c' ls' w₃ (Ok left)
+        improves left x v e g =
             let h = handed d z same in
             let y = safe-after (sheet_of qs ns) n (mesh_of ps c ls) h.closed (fine-first h).labelled in
-            let ep : p ≡ count r.mesh = let q = x.points in omega arith in
-            let et : t ≡ length r.mesh.pair.tris = sym x.triangles ∙ y.labelled in
+            let ep : left.points ≡ count r.mesh = let q = x.points in omega arith in
+            let et : left.triangles ≡ length r.mesh.pair.tris = sym x.triangles ∙ y.labelled in
+            let el : left ≡ left_of r = λ i. record { points = ep i; triangles = et i; flips = x.flips i } in
             record {
-              answer = (λ i. Improved (ep i) (et i) (x.flips i)) ∙ sym (ap (λ (q : Asked). answer_of q r) all-passed);
+              answer = ap Ok el ∙ sym (ap (λ (q : Asked). answer_of q r) all-passed);
               points = x.holds.points;
               corners = x.holds.corners;
               labels = x.holds.labels;

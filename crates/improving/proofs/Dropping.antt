@@ -1,5 +1,5 @@
 -- The lists after the collapses of a round: what stays of the triangles and their labels, then 0.
-use Prim.Native.Nat.{ℕ, zero, suc, ◌+◌, ◌*◌, ◌-◌, ◌/◌, ◌<◌, ◌≤◌}
+use Prim.Native.Nat.{ℕ, zero, suc, ◌+◌, ◌*◌, ◌/◌, ◌<◌, ◌≤◌}
 use native.Mathlib.Omega.{arith}
 use mathlib.Core.Path.{◌≡◌, sym, ap, ◌∙◌, subst}
 use mathlib.Core.Bool.{Bool, true, false}
@@ -28,7 +28,7 @@ use Rattle.renumber.specs.Dropped as Drop
 use Rattle.renumber.specs.Dropped.{becomes, gone_at, Droppable}
 use Rattle.renumber.proofs.Mesh.{gone-is, dropped-result}
 use Rattle.collapsing.specs.Areas.{touched_from}
-use Rattle.collapsing.specs.Noting.{Collapsible, Collapsed}
+use Rattle.collapsing.specs.Noting.{Collapsed}
 use Rattle.improving.specs.Rounded.{Improvable}
 use Rattle.improving.specs.Stages.{Dropped}
 
@@ -55,15 +55,6 @@ corners-low p (t ∷ ts) f (suc zero) l = (f 0 (omega arith)).b
 corners-low p (t ∷ ts) f (suc (suc zero)) l = (f 0 (omega arith)).c
 corners-low p (t ∷ ts) f (suc (suc (suc k))) l = corners-low p ts (λ i o. f (suc i) (omega arith)) k (omega arith)
 
-pub collapsible_of : {ps : List Float} {c ls w : List ℕ} → Improvable ps c ls w → Collapsible ps c ls (length ps / 3) w
-collapsible_of {ps} h = record {
-  lists = h.lists;
-  coords = let e = h.coords in omega arith;
-  labelled = h.labelled;
-  closed = h.closed;
-  room = let r = h.room in let s = h.labelled.size in omega arith;
-}
-
 -- w₁: the words after the pass
 module _ (ps qs : List Float) (ns c ls w : List ℕ) (h : Improvable ps c ls w) (w₁ : List ℕ) (e₁ : length w₁ ≡ length w) (done : Collapsed (scene ps qs ns) c ls (length ps / 3) w w₁) where
   abbrev p : ℕ
@@ -75,13 +66,6 @@ module _ (ps qs : List Float) (ns c ls w : List ℕ) (h : Improvable ps c ls w) 
   sizes : (length c ≡ 3 * length ls) × (touched_from c (length ps / 3) + length ps / 3 * 2 + length ls ≤ length w₁)
   sizes = let r = h.room in let s = h.labelled.size in (omega arith, omega arith)
 
-  pub droppable : Droppable c ls w₁ (touched_from c (length ps / 3) + length ps / 3) (touched_from c (length ps / 3) + length ps / 3 * 2)
-  droppable = record {
-    labelled = sizes.0;
-    renames = λ k l. let b = h.lists.below k l in let r = sizes.1 in omega arith;
-    marks = sizes.1;
-  }
-
   module _ (c₁ ls₁ : List ℕ) (n : ℕ) (ec : length c₁ ≡ length c) (el : length ls₁ ≡ length ls) (d : Drop.Dropped c ls w₁ c₁ ls₁ (touched_from c (length ps / 3) + length ps / 3) (touched_from c (length ps / 3) + length ps / 3 * 2) n) where
     -- the labels at the front are n
     count : length (take n ls₁) ≡ n
@@ -92,9 +76,6 @@ module _ (ps qs : List Float) (ns c ls w : List ℕ) (h : Improvable ps c ls w) 
 
     front : length (take (3 * n) c₁) ≡ 3 * n
     front = let x = length-take (3 * n) c₁ in let y = drop-fits in let z = sizes.0 in omega arith
-
-    pub drop-room : n * 3 ≤ length c₁
-    drop-room = let y = drop-fits in let z = sizes.0 in omega arith
 
     pair : pair_of (take (3 * n) c₁) (take n ls₁) ≡ dropped true (sheet_of qs ns) (mesh_of ps c ls)
     unfolding dropped

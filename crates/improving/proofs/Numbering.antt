@@ -1,5 +1,5 @@
 -- The corners numbered by first use, with their points, then 0.
-use Prim.Native.Nat.{ℕ, zero, suc, ◌+◌, ◌*◌, ◌-◌, ◌/◌, ◌<◌}
+use Prim.Native.Nat.{ℕ, zero, suc, ◌*◌, ◌/◌, ◌<◌}
 use native.Mathlib.Omega.{arith}
 use mathlib.Core.Path.{◌≡◌, refl, sym, ap, ◌∙◌, subst}
 use mathlib.Core.List.{List, [], ◌∷◌, ◌++◌, map, Memᴰ}
@@ -9,7 +9,6 @@ use Rattle.field.specs.Number.{plus_zero}
 use Rattle.surface.specs.Triangle.{triangles, corners}
 use Rattle.surface.proofs.Flat.{corners-triangles}
 use Rattle.halfedges.specs.Place.{at}
-use Rattle.closing.proofs.Whole.{zero-at}
 use Rattle.rounds.specs.Renumber.{index, met, walk, first_use}
 use Rattle.rounds.proofs.FirstUse.{walk_is, met_mem}
 use Rattle.rounds.proofs.Elements.{first-triangles}
@@ -18,7 +17,6 @@ use Rattle.blank.specs.Blank.{blank}
 use Rattle.blank.proofs.Blanking.{blank-is}
 use Rattle.renumber.specs.Saved.{Saved}
 use Rattle.renumber.specs.Numbered as Renumber
-use Rattle.renumber.proofs.Mesh.{numberable}
 use Rattle.improving.specs.Stages.{Numberable, Numbered}
 
 mem_at : (l : List ℕ) (k : ℕ) → k < length l → Memᴰ (at l k) l
@@ -39,9 +37,6 @@ walk-low c k l =
     map_at (x ∷ l) (suc k) h = map_at l k (omega arith)
 
 module _ (ps : List Float) (c w : List ℕ) (h : Numberable ps c w) (w₁ : List ℕ) (z₁ : w₁ ≡ replicate (length ps / 3) 0 ++ drop (length ps / 3) w) (w₂ : List ℕ) (s : Saved ps w₁ w₂ (length ps / 3) (length ps)) where
-  pub can_number : Renumber.Numberable ps c w₂ 0 (length ps / 3)
-  can_number = numberable ps c w₁ w₂ (length ps / 3) h.thirds h.few (λ k l. let b = h.below k l in omega arith) (omega arith) (λ v l. zero-at (length ps / 3) v w₁ (drop (length ps / 3) w) z₁ l) s
-
   pub numbered_is : (ps₁ ps₂ : List Float) (c₁ w₃ : List ℕ) (p : ℕ) → length ps₁ ≡ length ps → Renumber.Numbered ps c w₂ ps₁ c₁ w₃ 0 p → ps₂ ≡ blank plus_zero ps₁ (p * 3) → Numbered ps c ps₂ c₁ p
   unfolding first_use
   numbered_is ps₁ ps₂ c₁ w₃ p e n b =

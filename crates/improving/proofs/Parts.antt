@@ -1,13 +1,12 @@
 -- The parts of a round put together: the collapses, the renumbering, the flips.
-use Prim.Native.Nat.{ℕ, zero, suc, ◌+◌, ◌*◌, ◌-◌, ◌/◌, ◌%◌, ◌<◌, ◌≤◌}
+use Prim.Native.Nat.{ℕ, suc, ◌+◌, ◌*◌, ◌-◌, ◌/◌, ◌%◌, ◌<◌, ◌≤◌}
 use native.Mathlib.Omega.{arith}
-use mathlib.Core.Path.{◌≡◌, refl, sym, ap, ap₂, ◌∙◌, subst}
+use mathlib.Core.Path.{◌≡◌, sym, ap, ap₂, ◌∙◌, subst}
 use mathlib.Core.Bool.{Bool, true, false, ◌&&◌, cond}
-use mathlib.Core.List.{List, [], ◌∷◌, ◌++◌, map}
+use mathlib.Core.List.{List, [], ◌∷◌, ◌++◌}
 use lib.ListN.{length, take, drop, replicate, length-map}
 use lib.Seq.{take_at, drop_at}
 use lib.Ieee.{Float}
-use Rattle.field.specs.Number.{plus_zero}
 use Rattle.surface.specs.Triangle.{Tri, triangles, corners}
 use Rattle.surface.specs.Closed.{Closed}
 use Rattle.surface.proofs.Flat.{triangles-corners, corners-triangles}
@@ -17,7 +16,7 @@ use Rattle.sides.specs.Side.{sorted}
 use Rattle.sides.proofs.Meeting.{met_of}
 use Rattle.sides.proofs.Count.{half}
 use Rattle.chains.proofs.Flat.{thirds-length}
-use Rattle.history.specs.History.{Pair, Entry}
+use Rattle.history.specs.History.{Pair}
 use Rattle.history.specs.Lists.{then_zero}
 use Rattle.surface.specs.Renumber.{renumbered}
 use Rattle.rounds.specs.Renumber.{number, first_use}
@@ -26,14 +25,14 @@ use Rattle.rounds.specs.Choices.{Side, may_flip, flip_step, flips_of, flip_start
 use Rattle.oracle.specs.Points.{gathered}
 use Rattle.oracle.specs.Rising.{rising}
 use Rattle.oracle.specs.Gains.{helps}
-use Rattle.oracle.specs.Round.{Mesh, Sheet, seen, count, dropped, numbered, flipped, flips, round}
+use Rattle.oracle.specs.Round.{Mesh, Sheet, seen, dropped, numbered, flipped, flips, round}
 use Rattle.oracle.specs.Safe.{Safe}
 use Rattle.oracle.proofs.Safe.{safe}
-use Rattle.scores.specs.Measures.{pair_of, side_at}
+use Rattle.scores.specs.Measures.{pair_of}
 use Rattle.scores.proofs.Rises.{rising-is}
 use Rattle.flips.specs.Whole.{mesh_of, sheet_of, Flippable, Flipped}
-use Rattle.improving.specs.Rounded.{Improvable, then_plus_zero, Holds, Rounded}
-use Rattle.improving.specs.Stages.{Dropped, Numberable, Numbered}
+use Rattle.improving.specs.Rounded.{Improvable, then_plus_zero, Rounded}
+use Rattle.improving.specs.Stages.{Dropped, Numbered}
 
 -- ---- flips are no more than sides
 
@@ -77,15 +76,6 @@ module _ (ps qs : List Float) (ns c ls w : List ℕ) (h : Improvable ps c ls w) 
   front-triangles : triangles (take (n * 3) c₁) ≡ left.tris
   front-triangles = ap triangles front ∙ triangles-corners left.tris
 
-  pub part_numberable : Numberable ps (take (n * 3) c₁) w₁
-  part_numberable = record {
-    thirds = let e = front-size in omega arith;
-    coords = h.coords;
-    few = let a = h.lists.points in let b = h.coords in omega arith;
-    below = λ k l. subst (λ (x : List ℕ). at x k < length ps / 3) (sym front) (d.below k (let e = front-size in omega arith));
-    room = let r = h.room in omega arith;
-  }
-
   is-safe : Safe (sheet_of qs ns) (mesh_of ps c ls)
   is-safe = safe (sheet_of qs ns) (mesh_of ps c ls) h.closed (let a = thirds-length c h.lists.thirds in let b = h.labelled.size in omega arith)
 
@@ -97,9 +87,6 @@ module _ (ps qs : List Float) (ns c ls w : List ℕ) (h : Improvable ps c ls w) 
 
     whole₂ : take (n * 3) (c₂ ++ drop (n * 3) c₁) ≡ c₂
     whole₂ = take_at c₂ (drop (n * 3) c₁) (n * 3) size₂
-
-    pub part-whole : n * 3 ≡ length (take (n * 3) (c₂ ++ drop (n * 3) c₁))
-    part-whole = sym (ap length whole₂ ∙ size₂)
 
     points_are : take (p * 3) ps₂ ≡ gathered ps (first_use (triangles (take (n * 3) c₁)))
     points_are = ap (take (p * 3)) m.points ∙ take_at (gathered ps (first_use (triangles (take (n * 3) c₁)))) _ (p * 3) m.count

@@ -3,8 +3,8 @@ use Prim.Native.Nat.{ℕ, zero, suc, ◌+◌, ◌*◌, ◌-◌, ◌/◌, ◌%◌
 use native.Mathlib.Omega.{arith}
 use native.Mathlib.Numerals.{add-one}
 use mathlib.Core.Path.{◌≡◌, refl, sym, ap, ap₂, ◌∙◌, subst}
-use mathlib.Core.Bool.{Bool, true, false}
-use mathlib.Core.List.{List, [], ◌∷◌, ◌++◌, append_assoc, append-nil}
+use mathlib.Core.Bool.{true}
+use mathlib.Core.List.{List, ◌∷◌, ◌++◌, append_assoc, append-nil}
 use lib.ListN.{length, get_or, take, drop, replicate}
 use lib.Seq.{take_at, drop_at, length_front}
 use lib.Ieee.{Float}
@@ -16,11 +16,10 @@ use Rattle.surface.proofs.Flat.{triangles-corners, corners-triangles, length-cor
 use Rattle.surface.proofs.Euler.{use_has}
 use Rattle.surface.proofs.Bridge.{in_use}
 use Rattle.surface.proofs.Places.{has-place}
-use Rattle.halfedges.specs.Place.{at, nx, pv}
+use Rattle.halfedges.specs.Place.{at}
 use Rattle.chains.proofs.Flat.{thirds-length, place_at, reads_spot}
-use Rattle.chains.specs.Marks.{Lists}
 use Rattle.history.specs.Lists.{then_zero}
-use Rattle.oracle.specs.Round.{Mesh, Sheet, Result, count, dropped, numbered, flipped, flips, round, rounds}
+use Rattle.oracle.specs.Round.{Mesh, Sheet, count, dropped, numbered, flipped, round, rounds}
 use Rattle.oracle.specs.Safe.{after}
 use Rattle.oracle.proofs.Safe.{safe, safe-after}
 use Rattle.flips.specs.Whole.{mesh_of, sheet_of}

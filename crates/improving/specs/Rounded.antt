@@ -6,7 +6,7 @@ use Rattle.surface.specs.Closed.{Closed}
 use Rattle.chains.specs.LabelMarks.{Labelled}
 use Rattle.chains.specs.Marks.{Lists}
 use Rattle.history.specs.Lists.{then_zero}
-use Rattle.oracle.specs.Round.{Mesh, Result, count}
+use Rattle.oracle.specs.Round.{Mesh, Result}
 
 -- a closed surface as lists, and words as many as the questions ask for
 pub record Improvable (ps : List Float) (c ls w : List ℕ) : Type 0 where

@@ -1,5 +1,5 @@
 -- What the two stages of a round before the flip pass leave. Definitions only.
-use Rattle.std.specs.Prelude.{ℕ, ◌+◌, ◌*◌, ◌/◌, ◌%◌, ◌<◌, ◌≤◌, ◌≡◌, List, length, Float}
+use Rattle.std.specs.Prelude.{ℕ, ◌*◌, ◌/◌, ◌%◌, ◌<◌, ◌≤◌, ◌≡◌, List, length, Float}
 use Rattle.surface.specs.Triangle as Triangle
 use Rattle.surface.specs.Triangle.{triangles}
 use Rattle.halfedges.specs.Place.{at}

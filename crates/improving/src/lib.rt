@@ -8,15 +8,17 @@ ghost use Rattle.improving.specs.Rounded.{Improvable, Rounded};
 ghost use Rattle.improving.specs.Stages.{Dropped, Numberable, Numbered};
 ghost use Rattle.improving.specs.Improve.{Improving};
 
-use blank::{blank_bytes, blank_numbers, blank_words};
+use blank::blank;
 use closing::clear;
-use collapsing::note_collapses;
+use collapsing::{Areas, note_collapses};
+use field::Terms;
 use flips::flip_sides;
-use questions::{Asked, Refusal};
+use questions::Refusal;
 use renumber::{drop_gone, number_corners, save_points};
+use surface::Mesh;
 
 // What is left after rounds: points, triangles, and how many flips there were.
-#[derive(Clone, Copy)]
+#[derive(Clone, Copy, Debug, PartialEq, Eq)]
 pub struct Left {
     pub points: usize,
     pub triangles: usize,
@@ -28,21 +30,18 @@ fn collapse_slivers(
     points: &[f64],
     corners: &mut [u32],
     labels: &mut [u8],
-    coefficients: &[f64],
-    powers: &[u32],
+    terms: &Terms,
     work: &mut [u32],
 ) -> usize
     requires { Improvable points.now corners.old labels.old work.old }
-    ensures { Dropped (Round.dropped true (sheet_of coefficients.now powers.now) (mesh_of points.now corners.old labels.old)) (length points.now / 3) corners.old labels.old corners.new labels.new result }
+    ensures { Dropped (Round.dropped true (sheet_of terms.now.coefficients.now terms.now.powers.now) (mesh_of points.now corners.old labels.old)) (length points.now / 3) corners.old labels.old corners.new labels.new result }
 {
     let heads = points.len() / 3;
-    let places = corners.len();
-    let weak = heads * 3 + places * 3 + places / 2 + heads + places + heads * 8 + heads + places;
-    let touched = weak + places / 3 + places / 2 * 2 + places / 2 + places / 2;
-    note_collapses(points, corners, labels, coefficients, powers, heads, work);
+    let touched = Areas::of(corners, heads).touched;
+    note_collapses(points, corners, labels, terms, heads, work);
     let n = drop_gone(corners, labels, touched + heads, touched + heads * 2, work);
-    blank_words(corners, n * 3);
-    blank_bytes(labels, n);
+    blank(corners, n * 3);
+    blank(labels, n);
     n
 }
 
@@ -55,30 +54,29 @@ fn number_by_use(points: &mut [f64], corners: &mut [u32], work: &mut [u32]) -> u
     clear(work, heads);
     save_points(points, heads, work);
     let p = number_corners(points, corners, 0, heads, work);
-    blank_numbers(points, p * 3);
+    blank(points, p * 3);
     p
 }
 
 // One round. What is freed at the ends of the lists becomes 0.
+// The lists stay three parameters: each stage is lent a front of each, and some are lent to be read alone.
 fn round(
     points: &mut [f64],
     corners: &mut [u32],
     labels: &mut [u8],
-    coefficients: &[f64],
-    powers: &[u32],
+    terms: &Terms,
     work: &mut [u32],
 ) -> Left
     requires { Improvable points.old corners.old labels.old work.old }
-    ensures { Rounded (Round.round true (sheet_of coefficients.now powers.now) (mesh_of points.old corners.old labels.old)) 49152 points.old corners.old labels.old points.new corners.new labels.new result.points result.triangles result.flips }
+    ensures { Rounded (Round.round true (sheet_of terms.now.coefficients.now terms.now.powers.now) (mesh_of points.old corners.old labels.old)) 49152 points.old corners.old labels.old points.new corners.new labels.new result.points result.triangles result.flips }
 {
-    let n = collapse_slivers(points, corners, labels, coefficients, powers, work);
+    let n = collapse_slivers(points, corners, labels, terms, work);
     let p = number_by_use(points, &mut corners[..n * 3], work);
     let flips = flip_sides(
         &points[..p * 3],
         &mut corners[..n * 3],
         &labels[..n],
-        coefficients,
-        powers,
+        terms,
         work,
     );
     Left {
@@ -93,45 +91,33 @@ fn rounds(
     points: &mut [f64],
     corners: &mut [u32],
     labels: &mut [u8],
-    coefficients: &[f64],
-    powers: &[u32],
+    terms: &Terms,
     count: u32,
     work: &mut [u32],
 ) -> Left
     requires improvable { Improvable points.old corners.old labels.old work.old }
     requires count_bound { count ≤ 1000 }
-    ensures { Rounded (Round.rounds true (sheet_of coefficients.now powers.now) count (mesh_of points.old corners.old labels.old)) (49152 * count) points.old corners.old labels.old points.new corners.new labels.new result.points result.triangles result.flips }
+    ensures { Rounded (Round.rounds true (sheet_of terms.now.coefficients.now terms.now.powers.now) count (mesh_of points.old corners.old labels.old)) (49152 * count) points.old corners.old labels.old points.new corners.new labels.new result.points result.triangles result.flips }
 {
-    let mut p = points.len() / 3;
-    let mut n = labels.len();
-    let mut flips: u32 = 0;
-    let mut r: u32 = 0;
-    while r < count {
-        let left = round(
-            &mut points[..p * 3],
-            &mut corners[..n * 3],
-            &mut labels[..n],
-            coefficients,
-            powers,
+    let mut left = Left {
+        points: points.len() / 3,
+        triangles: labels.len(),
+        flips: 0,
+    };
+    for _ in 0..count {
+        let next = round(
+            &mut points[..left.points * 3],
+            &mut corners[..left.triangles * 3],
+            &mut labels[..left.triangles],
+            terms,
             work,
         );
-        p = left.points;
-        n = left.triangles;
-        flips = flips + left.flips;
-        r += 1;
+        left = Left {
+            flips: left.flips + next.flips,
+            ..next
+        };
     }
-    Left {
-        points: p,
-        triangles: n,
-        flips,
-    }
-}
-
-// The answer of improving: points left, triangles left and the count of flips, or why the call is refused.
-#[derive(Clone, Copy)]
-pub enum Outcome {
-    Improved(usize, usize, u32),
-    Refused(Refusal),
+    left
 }
 
 // Improves a closed surface by so many rounds.
@@ -140,33 +126,30 @@ pub fn improve(
     corners: &mut [u32],
     labels: &mut [u8],
     work: &mut [u32],
-    coefficients: &[f64],
-    powers: &[u32],
+    terms: &Terms,
     levels: &[f64; 2],
     bounds: &[f64; 6],
     count: u32,
-) -> Outcome
-    ensures { Improving points.old corners.old labels.old work.old coefficients.now powers.now levels.now bounds.now count points.new corners.new labels.new work.new result }
+) -> Result<Left, Refusal>
+    ensures { Improving points.old corners.old labels.old work.old terms.now.coefficients.now terms.now.powers.now levels.now bounds.now count points.new corners.new labels.new work.new result }
 {
-    if let Asked::Refused(why) = questions::admitted(points, corners, labels, work) {
-        return Outcome::Refused(why);
-    }
-    if !field::sheet_ok(coefficients, powers, levels, bounds) {
-        return Outcome::Refused(Refusal::Question(13));
+    questions::admitted(
+        &Mesh {
+            points,
+            corners,
+            labels,
+        },
+        work,
+    )?;
+    if !field::sheet_ok(terms, levels, bounds) {
+        return Err(Refusal::FieldSheet);
     }
     if 1000 < count {
-        return Outcome::Refused(Refusal::Question(14));
+        return Err(Refusal::Rounds);
     }
+    // As many words as the questions asked for. (In a function of its own the sum would have needs, which the questions tell here.)
     let need = corners.len() / 3 * 32 + points.len() / 3 * 16;
-    let left = rounds(
-        points,
-        corners,
-        labels,
-        coefficients,
-        powers,
-        count,
-        &mut work[..need],
-    );
+    let left = rounds(points, corners, labels, terms, count, &mut work[..need]);
     clear(work, need);
-    Outcome::Improved(left.points, left.triangles, left.flips)
+    Ok(left)
 }

@@ -5,10 +5,10 @@ use Prim.Native.Nat.{ℕ, ◌%◌, ◌^◌, ◌≤◌}
 use native.Mathlib.Omega.{arith}
 use lib.Dec.{T}
 use lib.Ieee.{binary64, fits}
+use Rattle.std.specs.Prelude.{Ok}
 use Rattle.lattice.specs.Sample.{SampledField, lower_level, upper_level}
-use Rattle.cuts.specs.Call.{CutLists, cuts_number, cuts_counts, cuts_fields, CutsGiven, CutsCall}
-use Rattle.cuts.specs.declared.Cuts.{Cuts}
-use Rattle.cuts.specs.declared.Cuts.TheVariants.{Complete, Refused}
+use Rattle.cuts.specs.Call.{CutLists, Cuts, cuts_number, cuts_counts, cuts_fields, CutsGiven, CutsCall}
+use Rattle.cuts.specs.declared.Complete.{Complete}
 use Rattle.cuts.proofs.Passing.{small-counts}
 use Rattle.lanovishel.specs.Cut.{F64Levels, CutCall}
 
@@ -16,7 +16,7 @@ pub f64_levels : (f : SampledField) → T (fits binary64 (lower_level f)) → T 
 f64_levels f lower upper = record { lower = lower; upper = upper }
 
 module _ {f : SampledField} {lent after : CutLists} {r : Cuts} (h : CutsCall f lent after r) (levels : F64Levels f) where
-  handed : (q : Cuts) → r ≡ q → {number : ℕ} {counts fields : List ℕ} → number ≡ cuts_number q → counts ≡ cuts_counts q → fields ≡ cuts_fields q ∷ [] → CutCall f lent after counts fields number
+  handed : (q : Cuts) → r ≡ q → {n : ℕ} {counts fields : List ℕ} → n ≡ cuts_number q → counts ≡ cuts_counts q → fields ≡ cuts_fields q ∷ [] → CutCall f lent after counts fields n
   handed q s n c t = record {
     answer = n ∙ ap cuts_number (sym s ∙ h.answer);
     given = subst (λ (l : Cuts). CutsGiven l f lent after) h.answer h.given;
@@ -26,16 +26,13 @@ module _ {f : SampledField} {lent after : CutLists} {r : Cuts} (h : CutsCall f l
   }
 
   -- the counts are as words what they are
-  pub cut_call : (n m t a b c d : ℕ) → r ≡ Complete n m t → a ≡ n % 2 ^ 32 → b ≡ n % 2 ^ 32 → c ≡ m % 2 ^ 32 → d ≡ m % 2 ^ 32 → CutCall f lent after (a ∷ b ∷ c ∷ d ∷ []) (t ∷ []) 0
-  cut_call n m t a b c d s ea eb ec ed =
-      let few = small-counts f lent n m t (sym h.answer ∙ s) in
-      handed (Complete n m t) s refl (same-counts (ea ∙ small n (omega arith)) (eb ∙ small n (omega arith)) (ec ∙ small m (omega arith)) (ed ∙ small m (omega arith))) refl
+  pub cut_call : (m : Complete) (a b c d : ℕ) → r ≡ Ok m → a ≡ m.nodes % 2 ^ 32 → b ≡ m.nodes % 2 ^ 32 → c ≡ m.edges % 2 ^ 32 → d ≡ m.edges % 2 ^ 32 → CutCall f lent after (a ∷ b ∷ c ∷ d ∷ []) (m.taken ∷ []) 0
+  cut_call m a b c d s ea eb ec ed =
+      let few = small-counts f lent m (sym h.answer ∙ s) in
+      handed (Ok m) s refl (same-counts (ea ∙ small m.nodes (omega arith)) (eb ∙ small m.nodes (omega arith)) (ec ∙ small m.edges (omega arith)) (ed ∙ small m.edges (omega arith))) refl
     where
       small : (k : ℕ) → k ≤ 30053646 → k % 2 ^ 32 ≡ k
       small k l = omega arith
 
       same-counts : {a b c d x y z w : ℕ} → a ≡ x → b ≡ y → c ≡ z → d ≡ w → a ∷ b ∷ c ∷ d ∷ [] ≡ x ∷ y ∷ z ∷ w ∷ []
       same-counts {a} {b} {c} {d} {x} {y} {z} {w} p q r s = cc
-
-  pub uncut_call : (k : ℕ) → r ≡ Refused k → CutCall f lent after (0 ∷ 0 ∷ 0 ∷ 0 ∷ []) (0 ∷ []) k
-  uncut_call k s = handed (Refused k) s refl refl refl

@@ -16,9 +16,8 @@ use Rattle.lattice.specs.Laws.{Samples}
 use Rattle.solve.specs.Laws.{EdgeEnds, NodeFailed, Failed}
 use Rattle.solve.specs.declared.Solved.{Solved}
 use Rattle.cuts.specs.Edges.{point_at, is_cut, cut_in, cut_numbers}
-use Rattle.cuts.specs.Call.{CutLists, edge_cut_point, cuts_fields, lattice_in}
+use Rattle.cuts.specs.Call.{CutLists, Cuts, edge_cut_point, cuts_fields, lattice_in}
 use Rattle.cuts.specs.Laws.{CutsAll}
-use Rattle.cuts.specs.declared.Cuts.{Cuts}
 use Rattle.cuts.proofs.Listing.{numbers-length}
 use Rattle.cuts.proofs.Passing.{zero-passes, passes_cut, zero_means, whole-at, fails_37}
 use Rattle.cuts.proofs.Ending.{cuts-laws, all-counted}

@@ -7,10 +7,9 @@ use lib.Ieee.{Float}
 use Rattle.oracle.specs.Round.{Result, count}
 use Rattle.original.specs.Domain.{Domain}
 use Rattle.flips.specs.Whole.{mesh_of, sheet_of}
-use Rattle.improving.specs.Improve.{Improving, points_of, triangles_of, flips_of, improved}
+use Rattle.std.specs.Prelude.{Ok}
+use Rattle.improving.specs.Improve.{Outcome, Improving, points_of, triangles_of, flips_of, improved, left_of}
 use Rattle.improving.specs.Demand3.{Demand3}
-use Rattle.improving.specs.declared.Outcome.{Outcome}
-use Rattle.improving.specs.declared.Outcome.TheVariants.{Improved}
 use Rattle.improving.proofs.Demand3.{zero-improved, demand3}
 use Rattle.lanovishel.specs.Improve.{ZeroImprove, MeetsDemand3, AsOriginal, ImproveLaws}
 
@@ -20,7 +19,7 @@ module _ {points₀ : List Float} {corners₀ labels₀ : List ℕ} {coefficient
   made = improved points₀ corners₀ labels₀ coefficients powers rounds
 
   -- the outcome is that of the rounds
-  outcome-is : c.call.outcome ≡ Improved (count made.mesh) (length made.mesh.pair.tris) made.flips
+  outcome-is : c.call.outcome ≡ Ok (left_of made)
   outcome-is = zero-improved c.call.run (sym c.call.is)
 
   words_are : answer₁ ≡ count made.mesh ∷ length made.mesh.pair.tris ∷ made.flips ∷ []

@@ -4,7 +4,7 @@ use mathlib.Core.List.{List}
 use Prim.Native.Nat.{ℕ}
 use lib.ListN.{length}
 use lib.Ieee.{Float}
-use Rattle.questions.specs.declared.Asked.{Asked}
+use Rattle.questions.specs.Refusal.{Asked}
 use Rattle.nearest.specs.Call.{answers_after}
 use Rattle.nearest.specs.Laws.{Answers, NearestLaws}
 use Rattle.nearest.proofs.Questions.{zero-passed}

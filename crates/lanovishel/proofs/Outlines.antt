@@ -5,7 +5,7 @@ use Prim.Native.Nat.{ℕ}
 use lib.IntN.{ℤ}
 use lib.ListN.{length}
 use lib.Ieee.{Float}
-use Rattle.questions.specs.declared.Asked.{Asked}
+use Rattle.questions.specs.Refusal.{Asked}
 use Rattle.layers.specs.Call.{after_questions, list_after}
 use Rattle.layers.specs.Laws.{LayerLists, LayerLaws}
 use Rattle.layers.proofs.Laws.{zero-listed, layer_laws_of}

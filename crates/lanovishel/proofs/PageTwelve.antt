@@ -10,8 +10,9 @@ use lib.ListN.{length}
 use lib.Ieee.{Float}
 use Rattle.surface.specs.PageTwelve.{Reordered, RelistedLists}
 use Rattle.questions.specs.Questions.{ask, and_then, surface_questions}
-use Rattle.questions.specs.declared.Asked.{Asked}
-use Rattle.questions.specs.declared.Asked.TheVariants as asked
+use Rattle.questions.specs.Refusal.{Asked}
+use Rattle.questions.specs.declared.Refusal.TheVariants.{Entries, FieldSheet, Rounds}
+use Rattle.std.specs.Prelude.{Ok, Err}
 use Rattle.questions.proofs.Relisting.{surface_relisted}
 use Rattle.checking.specs.Verdict.{number_of, place_of}
 use Rattle.checking.specs.Validate.{validated}
@@ -56,7 +57,7 @@ check-turned points corners labels corners' labels' words number number' place p
 -- ---- editing
 
 -- after the questions about the surface: 0 or 15
-edited : (q : Bool) (h : History) → ForTheSurface (edit.number_of (edit.answer_of (ask q 15 asked.Passed) h)) → ⊥
+edited : (q : Bool) (h : History) → ForTheSurface (edit.number_of (edit.answer_of (ask q Entries (Ok tt)) h)) → ⊥
 edited true h (inl s) = let i = s.0 in omega arith
 edited true h (inr s) = let i = s.0 in omega arith
 edited false h (inl s) = let i = s.1 in omega arith
@@ -74,10 +75,10 @@ edit-ordered points corners labels corners' labels' words number number' place p
     test' = eqb (length b.entries % 3) 0 && eqb (length b.verdicts) (length b.entries / 3)
 
     later : Asked
-    later = ask test 15 asked.Passed
+    later = ask test Entries (Ok tt)
 
     later' : Asked
-    later' = ask test' 15 asked.Passed
+    later' = ask test' Entries (Ok tt)
 
     h : History
     h = history_of corners labels a.entries a.journal
@@ -96,9 +97,9 @@ edit-ordered points corners labels corners' labels' words number number' place p
     out' e = b.call.run.answer ∙ ap (λ (q : Asked). edit.answer_of (and_then q later') h') (sym same ∙ e)
 
     go : (q : Asked) → surface_questions points corners labels a.work ≡ q → SameRefusal ForTheSurface number place number' place'
-    go (asked.Refused why) e =
+    go (Err why) e =
         refused-same (a.call.is ∙ ap edit.number_of (out e ∙ sym (out' e)) ∙ sym b.call.is) (a.call.place ∙ ap edit.place_of (out e ∙ sym (out' e)) ∙ sym b.call.place)
-    go asked.Passed e =
+    go (Ok x) e =
         none-refused
         (λ s. edited test h (subst ForTheSurface (a.call.is ∙ ap edit.number_of (out e)) s))
         (λ s. edited test' h' (subst ForTheSurface (b.call.is ∙ ap edit.number_of (out' e)) s))
@@ -106,7 +107,7 @@ edit-ordered points corners labels corners' labels' words number number' place p
 -- ---- improving
 
 -- after the questions about the surface: 0, 13 or 14
-improved : (p q : Bool) (m : Result) → ForTheSurface (improve.number_of (improve.answer_of (ask p 13 (ask q 14 asked.Passed)) m)) → ⊥
+improved : (p q : Bool) (m : Result) → ForTheSurface (improve.number_of (improve.answer_of (ask p FieldSheet (ask q Rounds (Ok tt))) m)) → ⊥
 improved true true m (inl s) = let i = s.0 in omega arith
 improved true true m (inr s) = let i = s.0 in omega arith
 improved true false m (inl s) = let i = s.1 in omega arith
@@ -120,10 +121,10 @@ unfolding improve.improve_questions
 improve-ordered points corners labels corners' labels' words number number' place place' r a b = go (surface_questions points corners labels a.work) refl
   where
     later : Asked
-    later = ask (sheet_ok a.coefficients a.powers a.levels a.bounds) 13 (ask (leb a.rounds 1000) 14 asked.Passed)
+    later = ask (sheet_ok a.coefficients a.powers a.levels a.bounds) FieldSheet (ask (leb a.rounds 1000) Rounds (Ok tt))
 
     later' : Asked
-    later' = ask (sheet_ok b.coefficients b.powers b.levels b.bounds) 13 (ask (leb b.rounds 1000) 14 asked.Passed)
+    later' = ask (sheet_ok b.coefficients b.powers b.levels b.bounds) FieldSheet (ask (leb b.rounds 1000) Rounds (Ok tt))
 
     m : Result
     m = improve.improved points corners labels a.coefficients a.powers a.rounds
@@ -141,9 +142,9 @@ improve-ordered points corners labels corners' labels' words number number' plac
     out' e = b.call.run.answer ∙ ap (λ (q : Asked). improve.answer_of (and_then q later') m') (sym same ∙ e)
 
     go : (q : Asked) → surface_questions points corners labels a.work ≡ q → SameRefusal ForTheSurface number place number' place'
-    go (asked.Refused why) e =
+    go (Err why) e =
         refused-same (a.call.is ∙ ap improve.number_of (out e ∙ sym (out' e)) ∙ sym b.call.is) (a.call.place ∙ ap improve.place_of (out e ∙ sym (out' e)) ∙ sym b.call.place)
-    go asked.Passed e =
+    go (Ok x) e =
         none-refused
         (λ s. improved (sheet_ok a.coefficients a.powers a.levels a.bounds) (leb a.rounds 1000) m (subst ForTheSurface (a.call.is ∙ ap improve.number_of (out e)) s))
         (λ s. improved (sheet_ok b.coefficients b.powers b.levels b.bounds) (leb b.rounds 1000) m' (subst ForTheSurface (b.call.is ∙ ap improve.number_of (out' e)) s))

@@ -10,9 +10,8 @@ use Rattle.blank.specs.Blank.{then_blank}
 use Rattle.field.specs.Number.{plus_zero}
 use Rattle.lattice.specs.Node.{per_side}
 use Rattle.lattice.specs.Edges.{Edge, edge_words}
-use Rattle.lattice.specs.Sample.{SampledField, LatticeLists, nodes, lower_level, upper_level, lattice_values, lattice_edges, when_sampled}
+use Rattle.lattice.specs.Sample.{SampledField, LatticeLists, Lattice, nodes, lower_level, upper_level, lattice_values, lattice_edges, when_sampled}
 use Rattle.lattice.specs.Laws.{Samples, ListsCrossed}
-use Rattle.lattice.specs.declared.Lattice.{Lattice}
 use Rattle.lattice.proofs.Answers.{zero-passes, passes-sampled, zero_means}
 use Rattle.lattice.proofs.Listed.{lattice-listed}
 use Rattle.lattice.proofs.Stores.{values_length}

@@ -2,23 +2,22 @@
 use mathlib.Core.Path.{◌≡◌, refl, sym, ap, ◌∙◌}
 use mathlib.Core.Bool.{Bool, true, false, cond}
 use mathlib.Core.List.{List, [], ◌∷◌, ◌++◌}
-use Prim.Native.Nat.{ℕ, suc, ◌-◌}
+use Prim.Native.Nat.{ℕ, ◌-◌}
 use native.Mathlib.Omega.{arith}
 use lib.Dec.{leb}
 use lib.IntN.{ℤ}
 use lib.ListN.{length, get_or, take, replicate}
 use lib.Ieee.{Float}
 use lib.Seq.{take_at}
-use Rattle.sheet.specs.Edition.{edition, is_edition?}
-use Rattle.sheet.specs.Sheet.{Sheet, text}
-use Rattle.sheet.specs.Contents as Contents
+use Rattle.sheet.specs.Refusals.{refusal_number}
+use Rattle.sheet.specs.declared.Refusal.{Refusal}
+use Rattle.sheet.specs.declared.Refusal.TheVariants.{NoSheet, NoRoom, Inexact}
+use Rattle.sheet.specs.Sheet.{Sheet}
 use Rattle.sheet.specs.Contents.{Contents, contents}
-use Rattle.sheet.specs.Conversion.{convertible?, sheet_in_unit}
 use Rattle.reading.specs.Given.{reading_in, sheet_answer, answer_number, answer_counts}
-use Rattle.writing.specs.Lists.{sayable?, list_sheet}
 use Rattle.writing.specs.Written.{Writing, written, refused, list_text, written_of, written_number, written_length, bytes_after}
 use Rattle.writing.proofs.Laws.{writing_laws}
-use Rattle.converting.specs.Converting.{unit_of, conversion}
+use Rattle.converting.specs.Converting.{conversion}
 use Rattle.converting.proofs.Laws.{converting_laws}
 use Rattle.lanovishel.specs.Sheets.{WritingCall, WriteSheetCall, ConvertSheetCall, given, SheetLaws}
 
@@ -27,42 +26,26 @@ use Rattle.lanovishel.specs.Sheets.{WritingCall, WriteSheetCall, ConvertSheetCal
 given-bytes : (bytes zeros written' count' : List ℕ) → written' ≡ bytes ++ zeros → count' ≡ length bytes ∷ [] → given written' count' ≡ bytes
 given-bytes bytes zeros written' count' e f = (λ i. take (get_or (f i) 0 0) (e i)) ∙ take_at bytes zeros (length bytes) refl
 
-zero-given : (w : Writing) (list list' count' : List ℕ) → (w ≡ refused 0 → ⊥) → WritingCall w list list' count' 0 → w ≡ written (given list' count')
-zero-given (refused n) list list' count' nz c = absurd (nz (ap refused (sym c.answer)))
-zero-given (written bytes) list list' count' nz c = go (leb (length bytes) (length list)) c.answer c.bytes c.count
+some_number : (why : Refusal) → 0 ≡ refusal_number why → ⊥
+some_number NoSheet e = omega arith
+some_number NoRoom e = omega arith
+some_number Inexact e = omega arith
+
+zero-given : (w : Writing) (list list' count' : List ℕ) → WritingCall w list list' count' 0 → w ≡ written (given list' count')
+zero-given (refused why) list list' count' c = absurd (some_number why c.answer)
+zero-given (written bytes) list list' count' c = go (leb (length bytes) (length list)) c.answer c.bytes c.count
   where
-    go : (b : Bool) → 0 ≡ written_number (written_of (cond b (written bytes) (refused 35))) → list' ≡ bytes_after (length list) (cond b (written bytes) (refused 35)) → count' ≡ written_length (written_of (cond b (written bytes) (refused 35))) ∷ [] → written bytes ≡ written (given list' count')
+    go : (b : Bool) → 0 ≡ written_number (written_of (cond b (written bytes) (refused NoRoom))) → list' ≡ bytes_after (length list) (cond b (written bytes) (refused NoRoom)) → count' ≡ written_length (written_of (cond b (written bytes) (refused NoRoom))) ∷ [] → written bytes ≡ written (given list' count')
     go true a e f = ap written (sym (given-bytes bytes (replicate (length list - length bytes) 0) list' count' e f))
     go false a e f = absurd (omega arith)
-
--- ---- 0 is no refusal's number
-
-some_number : (w : Writing) (n : ℕ) → w ≡ refused (suc n) → w ≡ refused 0 → ⊥
-some_number w n e f = let bad : suc n ≡ 0 = ap (λ (v : Writing). written_number (written_of v)) (sym e ∙ f) in omega arith
-
-a-text : (bytes : List ℕ) → written bytes ≡ refused 0 → ⊥
-a-text bytes e = let bad : ◌≡◌ {A = ℕ} 0 1 = cc in omega arith
-
-either : (b : Bool) (w : Writing) (n : ℕ) → (w ≡ refused 0 → ⊥) → cond b w (refused (suc n)) ≡ refused 0 → ⊥
-either true w n h = h
-either false w n h = some_number (refused (suc n)) n refl
-
-written-some : (number : ℕ) (coordinates : List ℤ) (corners labels : List ℕ) → list_text number coordinates corners labels ≡ refused 0 → ⊥
-written-some number coordinates corners labels = either (sayable? number coordinates corners labels) (written (text (edition number) (list_sheet coordinates corners labels))) 15 (a-text _)
-
-converted-some : (c : Contents) (asked : ℕ) → conversion c asked ≡ refused 0 → ⊥
-converted-some Contents.nothing asked = some_number (refused 16) 15 refl
-converted-some (Contents.sheet number s) asked =
-    either (is_edition? asked) _ 15
-    (either (convertible? (unit_of number) (unit_of asked) s) (written (text (edition asked) (sheet_in_unit (unit_of number) (unit_of asked) s))) 37 (a-text _))
 
 -- ---- the laws
 
 zero-written : (number : ℕ) (coordinates : List ℤ) (corners labels list list' count' : List ℕ) → WriteSheetCall number coordinates corners labels list list' count' 0 → list_text number coordinates corners labels ≡ written (given list' count')
-zero-written number coordinates corners labels list list' count' c = zero-given (list_text number coordinates corners labels) list list' count' (written-some number coordinates corners labels) c
+zero-written number coordinates corners labels list list' count' c = zero-given (list_text number coordinates corners labels) list list' count' c
 
 zero-converted : (sheet : List ℕ) (asked : ℕ) (list list' count' : List ℕ) → ConvertSheetCall sheet asked list list' count' 0 → conversion (contents sheet) asked ≡ written (given list' count')
-zero-converted sheet asked list list' count' c = zero-given (conversion (contents sheet) asked) list list' count' (converted-some (contents sheet) asked) c
+zero-converted sheet asked list list' count' c = zero-given (conversion (contents sheet) asked) list list' count' c
 
 zero-read : (c : Contents) (p : List Float) (k l : List ℕ) → 0 ≡ answer_number (sheet_answer (reading_in c p k l)) → (number : ℕ) × (s : Sheet) × (c ≡ Contents.sheet number s)
 zero-read Contents.nothing p k l e = absurd (omega arith)

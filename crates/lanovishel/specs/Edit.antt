@@ -1,11 +1,12 @@
 -- `lanovishel_edit` for every call: it answers and leaves what `edit` does (`EditRun`), the outcome as document 01's number and the two counts, triangles left and edits in force, which are 0 after a refusal, and document 02's place. Definitions only.
-use Rattle.std.specs.Prelude.{ℕ, ◌≡◌, List, [], ◌∷◌, Float}
+use Rattle.std.specs.Prelude.{ℕ, ◌≡◌, List, [], ◌∷◌, Float, Result}
 use Rattle.editing.specs.Demand3.{Demand3}
 use Rattle.editing.specs.Edit.{EditRun, number_of, triangles_of, edits_of, place_of}
-use Rattle.editing.specs.declared.Outcome.{Outcome}
+use Rattle.editing.specs.declared.Left.{Left}
+use Rattle.questions.specs.declared.Refusal.{Refusal}
 
 pub record EditCall (points : List Float) (corners₀ labels₀ work₀ entries verdicts₀ journal₀ corners₁ labels₁ work₁ verdicts₁ journal₁ answer₁ place₁ : List ℕ) (number : ℕ) : Type 0 where
-  pub outcome : Outcome
+  pub outcome : Result Left Refusal
   pub run : EditRun points corners₀ labels₀ work₀ entries verdicts₀ journal₀ corners₁ labels₁ work₁ verdicts₁ journal₁ outcome
   pub is : number ≡ number_of outcome
   pub answer : answer₁ ≡ triangles_of outcome ∷ edits_of outcome ∷ []

@@ -6,9 +6,8 @@ use Rattle.original.specs.Improve.{improve}
 use Rattle.original.specs.Domain.{Domain}
 use Rattle.flips.specs.Whole.{mesh_of, sheet_of}
 use Rattle.improving.specs.Rounded.{Holds}
-use Rattle.improving.specs.Improve.{Improving, number_of, points_of, triangles_of, flips_of, place_of}
+use Rattle.improving.specs.Improve.{Outcome, Improving, number_of, points_of, triangles_of, flips_of, place_of}
 use Rattle.improving.specs.Demand3.{Demand3}
-use Rattle.improving.specs.declared.Outcome.{Outcome}
 
 pub record ImproveCall (points₀ : List Float) (corners₀ labels₀ work₀ : List ℕ) (coefficients : List Float) (powers : List ℕ) (levels bounds : List Float) (rounds : ℕ) (points₁ : List Float) (corners₁ labels₁ work₁ answer₁ place₁ : List ℕ) (number : ℕ) : Type 0 where
   pub outcome : Outcome

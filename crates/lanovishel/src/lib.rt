@@ -5,6 +5,7 @@
 ghost use Rattle.std.specs.Prelude.{◌≡◌, [], ◌∷◌, ◌%◌, ◌^◌, T};
 ghost use Rattle.std.specs.Float.{binary64};
 ghost use Rattle.std.specs.Float.Ieee.{fits};
+ghost use Rattle.questions.specs.Refusal.{refusal_number, refusal_place};
 ghost use Rattle.writing.specs.Written.{written_number, written_length};
 ghost use Rattle.lanovishel.specs.Root.{SquareRoot};
 ghost use Rattle.lanovishel.specs.Check.{Checked};
@@ -19,15 +20,12 @@ ghost use Rattle.lanovishel.specs.Sample.{SampleCall};
 ghost use Rattle.cuts.specs.Call.{cut_lists};
 ghost use Rattle.lanovishel.specs.Cut.{CutCall};
 
-use checking::Verdict;
-use cuts::Cuts;
-use editing::Outcome;
-use lattice::Lattice;
+use checking::Measures;
+use field::Terms;
+use lattice::Sampled;
 use layers::Layer;
-use price::Quote;
-use questions::Asked;
-use reading::Answer;
-use writing::Written;
+use sheet::Counts;
+use surface::Mesh;
 
 // The square root of IEEE 754.
 pub fn lanovishel_sqrt(x: f64) -> f64
@@ -48,16 +46,20 @@ pub fn lanovishel_check(
 ) -> u32
     ensures { Checked points.now corners.now labels.now work.old work.new numbers.new place.new result }
 {
-    match checking::validate(points, corners, labels, work) {
-        Verdict::Accepted(quality, volume) => {
+    let mesh = Mesh {
+        points,
+        corners,
+        labels,
+    };
+    match checking::validate(&mesh, work) {
+        Ok(Measures { quality, volume }) => {
             *numbers = [quality, volume];
             *place = [0, 0];
             0
         }
-        Verdict::Refused(why) => {
+        Err(why) => {
             *numbers = [0.0, 0.0];
-            *place = why.place(); // 0 0 but for a finding
-            why.number()
+            refused(why, place)
         }
     }
 }
@@ -76,16 +78,20 @@ pub fn lanovishel_price(
 ) -> u32
     ensures { PriceCall points.now corners.now labels.now work.old uppers.now prices.now work.new cents.new place.new result }
 {
-    match price::price(points, corners, labels, work, uppers, prices) {
-        Quote::Price(sum) => {
+    let mesh = Mesh {
+        points,
+        corners,
+        labels,
+    };
+    match price::price(&mesh, work, uppers, prices) {
+        Ok(sum) => {
             *cents = [sum];
             *place = [0, 0];
             0
         }
-        Quote::Refused(why) => {
+        Err(why) => {
             *cents = [0];
-            *place = why.place();
-            why.number()
+            refused(why, place)
         }
     }
 }
@@ -103,12 +109,17 @@ pub fn lanovishel_nearest(
 ) -> u32
     ensures { NearestCall points.now corners.now labels.now work.old probes.now answers.old work.new answers.new count.new result }
 {
-    match nearest::nearest(points, corners, labels, work, probes, answers) {
-        Asked::Passed => {
+    let mesh = Mesh {
+        points,
+        corners,
+        labels,
+    };
+    match nearest::nearest(&mesh, work, probes, answers) {
+        Ok(()) => {
             *count = [low_word(probes.len() / 3)];
             0
         }
-        Asked::Refused(why) => {
+        Err(why) => {
             *count = [0];
             why.number()
         }
@@ -130,16 +141,20 @@ pub fn lanovishel_outlines(
 ) -> u32
     ensures { OutlinesCall points.now corners.now labels.now work.old height outline.old work.new outline.new counts.new place.new result }
 {
-    match layers::outlines(points, corners, labels, work, height, outline) {
-        Layer::Listed(places, loops) => {
+    let mesh = Mesh {
+        points,
+        corners,
+        labels,
+    };
+    match layers::outlines(&mesh, work, height, outline) {
+        Ok(Layer { places, loops }) => {
             *counts = [low_word(places), low_word(loops)];
             *place = [0, 0];
             0
         }
-        Layer::Refused(why) => {
+        Err(why) => {
             *counts = [0, 0];
-            *place = why.place();
-            why.number()
+            refused(why, place)
         }
     }
 }
@@ -156,13 +171,13 @@ pub fn lanovishel_read_sheet(
     ensures { ReadSheetCall sheet.now points.old corners.old labels.old points.new corners.new labels.new counts.new result }
 {
     match reading::read(sheet, points, corners, labels) {
-        Answer::Sheet(n, m) => {
-            *counts = [low_word(n), low_word(m)];
+        Ok(Counts { points, triangles }) => {
+            *counts = [low_word(points), low_word(triangles)];
             0
         }
-        Answer::Refused(why) => {
+        Err(why) => {
             *counts = [0, 0];
-            why
+            why.number()
         }
     }
 }
@@ -198,17 +213,17 @@ pub fn lanovishel_convert_sheet(
 }
 
 // 0 with the length of the text, or the number of the refusal with 0.
-fn answered(what: Written, count: &mut [u64; 1]) -> u32
+fn answered(what: Result<usize, sheet::Refusal>, count: &mut [u64; 1]) -> u32
     ensures { (result ≡ written_number what) × (count.new ≡ written_length what ∷ []) }
 {
     match what {
-        Written::Is(n) => {
+        Ok(n) => {
             *count = [n as u64];
             0
         }
-        Written::Refused(why) => {
+        Err(why) => {
             *count = [0]; // no text
-            why
+            why.number()
         }
     }
 }
@@ -229,15 +244,14 @@ pub fn lanovishel_edit(
     ensures { EditCall points.now corners.old labels.old work.old entries.now verdicts.old journal.old corners.new labels.new work.new verdicts.new journal.new answer.new place.new result }
 {
     match editing::edit(points, corners, labels, work, entries, verdicts, journal) {
-        Outcome::Edited(triangles, edits) => {
+        Ok(editing::Left { triangles, edits }) => {
             *answer = [triangles as u64, edits as u64];
             *place = [0, 0];
             0
         }
-        Outcome::Refused(why) => {
+        Err(why) => {
             *answer = [0, 0];
-            *place = why.place();
-            why.number()
+            refused(why, place)
         }
     }
 }
@@ -259,26 +273,21 @@ pub fn lanovishel_improve(
 ) -> u32
     ensures { ImproveCall points.old corners.old labels.old work.old coefficients.now powers.now levels.now bounds.now rounds points.new corners.new labels.new work.new answer.new place.new result }
 {
-    match improving::improve(
-        points,
-        corners,
-        labels,
-        work,
+    let terms = Terms {
         coefficients,
         powers,
-        levels,
-        bounds,
-        rounds,
+    };
+    match improving::improve(
+        points, corners, labels, work, &terms, levels, bounds, rounds,
     ) {
-        improving::Outcome::Improved(left, triangles, flips) => {
-            *answer = [low_word(left), low_word(triangles), flips];
+        Ok(left) => {
+            *answer = [low_word(left.points), low_word(left.triangles), left.flips];
             *place = [0, 0];
             0
         }
-        improving::Outcome::Refused(why) => {
+        Err(why) => {
             *answer = [0, 0, 0];
-            *place = why.place();
-            why.number()
+            refused(why, place)
         }
     }
 }
@@ -298,23 +307,18 @@ pub fn lanovishel_sample(
 ) -> u32
     ensures { SampleCall (told coefficients.now powers.now levels.now bounds.now cells) (lists grid.old values.old edges.old) (lists grid.new values.new edges.new) counts.new result }
 {
-    match lattice::sample(
+    let terms = Terms {
         coefficients,
         powers,
-        levels,
-        bounds,
-        cells,
-        grid,
-        values,
-        edges,
-    ) {
-        Lattice::Sampled(nodes, found) => {
-            *counts = [low_word(nodes), low_word(nodes), low_word(found)];
+    };
+    match lattice::sample(&terms, levels, bounds, cells, grid, values, edges) {
+        Ok(Sampled { nodes, edges }) => {
+            *counts = [low_word(nodes), low_word(nodes), low_word(edges)];
             0
         }
-        Lattice::Refused(why) => {
+        Err(why) => {
             *counts = [0, 0, 0];
-            why
+            why.number()
         }
     }
 }
@@ -339,33 +343,36 @@ pub fn lanovishel_cut(
 {
     known_f64(levels[0]);
     known_f64(levels[1]);
-    match cuts::cut(
+    let terms = Terms {
         coefficients,
         powers,
-        levels,
-        bounds,
-        cells,
-        grid,
-        values,
-        edges,
-        cuts,
-    ) {
-        Cuts::Complete(nodes, found, taken) => {
+    };
+    match cuts::cut(&terms, levels, bounds, cells, grid, values, edges, cuts) {
+        Ok(complete) => {
             *counts = [
-                low_word(nodes),
-                low_word(nodes),
-                low_word(found),
-                low_word(found),
+                low_word(complete.nodes),
+                low_word(complete.nodes),
+                low_word(complete.edges),
+                low_word(complete.edges),
             ];
-            *fields = [taken];
+            *fields = [complete.taken];
             0
         }
-        Cuts::Refused(why) => {
+        Err(why) => {
             *counts = [0, 0, 0, 0];
             *fields = [0];
-            why
+            why.number()
         }
     }
+}
+
+// The number of a refusal, with its place, which is 0 0 but for a finding.
+fn refused(why: questions::Refusal, place: &mut [u32; 2]) -> u32
+    ensures number { result ≡ refusal_number why }
+    ensures place { place.new ≡ refusal_place why }
+{
+    *place = why.place();
+    why.number()
 }
 
 // Does nothing: what is lent is an f64, of which the logic's floats are more.

@@ -207,7 +207,6 @@ step-laws = record {
 -- ---- sizes
 
 at_most_one : (l : List ℕ) → every (λ (n : ℕ). leb n 1) l ≡ true → (d : ℕ) → get_or l d 0 ≤ 1
-unfolding every
 at_most_one [] q d = omega arith
 at_most_one (x ∷ l) q zero = leb-true x 1 (both (leb x 1) (every (λ (n : ℕ). leb n 1) l) q).0
 at_most_one (x ∷ l) q (suc d) = at_most_one l (both (leb x 1) (every (λ (n : ℕ). leb n 1) l) q).1 d
@@ -222,7 +221,6 @@ pub record Small (n x y z : ℕ) : Type 0 where
   pub layers : n * n * z ≤ 16641
 
 pub small : (n d x y z : ℕ) → n ≤ 129 → x ≡ step_x d → y ≡ step_y d → z ≡ step_z d → Small n x y z
-unfolding every
 small n d x y z few ex ey ez =
     let q : n * n ≤ 16641 = square-small n few in
     let hx : x ≤ 1 = omega (arith, at_most_one (1 ∷ 0 ∷ 0 ∷ 1 ∷ 1 ∷ 0 ∷ 1 ∷ []) refl d) in

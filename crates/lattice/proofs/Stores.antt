@@ -115,14 +115,14 @@ module _ (qs : List Float) (ns : List ℕ) (bounds : List Float) (cells : ℕ) (
 
   module _ {p : Index} {g v : List Float} {a : ℕ} (f : Filling qs ns bounds cells g₀ v₀ p g v a) where
     -- a turn begins inside the lattice
-    pub filling_inside : a < length v → InLattice (per_side cells) p
+    pub filling_inside : a < length v₀ → InLattice (per_side cells) p
     filling_inside h =
         let s = f.value_length in
         let n = fits.value_places in
         let k = fits.few in
         subst (InLattice (per_side cells)) (sym f.index) (node-inside (per_side cells) a (omega arith) (omega arith) (omega arith))
 
-    pub filling_turn : a < length v → (r : Point) (w : Float) (q : Index) → r ≡ node_at bounds cells p.x p.y p.z → w ≡ value qs ns r → q ≡ next_index (per_side cells) p
+    pub filling_turn : a < length v₀ → (r : Point) (w : Float) (q : Index) → r ≡ node_at bounds cells p.x p.y p.z → w ≡ value qs ns r → q ≡ next_index (per_side cells) p
         → Filling qs ns bounds cells g₀ v₀ q (set (set (set g (a * 3) r.x) (a * 3 + 1) r.y) (a * 3 + 2) r.z) (set v a w) (a + 1)
     filling_turn h r w q er ew eq =
         let s = f.value_length in
@@ -136,7 +136,7 @@ module _ (qs : List Float) (ns : List ℕ) (bounds : List Float) (cells : ℕ) (
           value_front = sampled-step qs ns bounds cells a v₀ v r w f.value_front n ew;
         }
 
-    pub filling_ends : length v ≤ a → NodesFilled qs ns bounds cells g₀ g v
+    pub filling_ends : length v₀ ≤ a → NodesFilled qs ns bounds cells g₀ g v
     filling_ends h =
         let s = f.value_length in
         let l = f.few in

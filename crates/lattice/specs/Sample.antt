@@ -1,5 +1,5 @@
 -- Sampling a field (document 02, F-2): the answer of every call, and each list afterwards. Definitions only.
-use Rattle.std.specs.Prelude.{ℕ, ◌*◌, ◌≡◌, Bool, ◌&&◌, cond, List, [], ◌∷◌, leb, length, get_or, Float}
+use Rattle.std.specs.Prelude.{ℕ, ◌*◌, ◌≡◌, Bool, ◌&&◌, cond, List, [], ◌∷◌, leb, length, get_or, Float, Result, Ok, Err}
 use Rattle.std.specs.Float.{nan}
 use Rattle.blank.specs.Blank.{then_blank}
 use Rattle.float.specs.Order.{is_finite}
@@ -9,8 +9,10 @@ use Rattle.lattice.specs.Node as Node
 use Rattle.lattice.specs.Node.{per_side, cube}
 use Rattle.lattice.specs.Values.{sampled, onto_levels}
 use Rattle.lattice.specs.Edges.{Edge, crossed_edges, edge_words}
-use Rattle.lattice.specs.declared.Lattice.{Lattice}
-use Rattle.lattice.specs.declared.Lattice.TheVariants.{Sampled, Refused}
+use Rattle.lattice.specs.declared.Told.{Told}
+use Rattle.lattice.specs.declared.Sampled.{Sampled}
+use Rattle.lattice.specs.declared.Refusal.{Refusal}
+use Rattle.lattice.specs.declared.Refusal.TheVariants.{FieldSheet, Cells, Room, ValueNotFinite, ResidualNotFinite}
 
 -- what a call is told: a field sheet, its levels and its box, and how many cells there are to a side
 pub record SampledField : Type 0 where
@@ -28,6 +30,9 @@ pub record LatticeLists : Type 0 where
 
 abbrev pub told : (coefficients : List Float) (powers : List ℕ) (levels bounds : List Float) (cells : ℕ) → SampledField
 told coefficients powers levels bounds cells = record { coefficients = coefficients; powers = powers; levels = levels; bounds = bounds; cells = cells }
+
+abbrev pub field_told : Told → SampledField
+field_told t = told t.terms.now.coefficients.now t.terms.now.powers.now t.levels.now t.bounds.now t.cells
 
 abbrev pub lists : (grid values : List Float) (edges : List ℕ) → LatticeLists
 lists grid values edges = record { grid = grid; values = values; edges = edges }
@@ -60,47 +65,61 @@ lattice_edges f = crossed_edges (per_side f.cells) (lower_level f) (upper_level 
 
 -- ---- the answer
 
--- what is asked, its number and what comes after it: "no" gives the number
-abbrev pub or_refused : Bool → ℕ → Lattice → Lattice
-or_refused answer number later = cond answer later (Refused number)
+-- how many nodes there are and how many crossed edges, or why there are none
+abbrev pub Lattice : Type 0
+Lattice = Result Sampled Refusal
+
+abbrev pub all_sampled : (nodes edges : ℕ) → Lattice
+all_sampled nodes edges = Ok (record { nodes = nodes; edges = edges })
+
+abbrev pub number : Refusal → ℕ
+number FieldSheet = 13
+number Cells = 34
+number Room = 35
+number ValueNotFinite = 36
+number ResidualNotFinite = 37
+
+-- what is asked, and what comes after it: "no" is why
+abbrev pub or_refused : Bool → Refusal → Lattice → Lattice
+or_refused answer why later = cond answer later (Err why)
 
 -- the questions that are answered on the way; else how many nodes there are and how many crossed edges
 unfoldable pub after_nodes : SampledField → (edge_places : ℕ) → Lattice
-unfolding every lattice_edges
+unfolding lattice_edges
 after_nodes f edge_places =
     -- Is every value finite?
-    or_refused (every is_finite (raw_values f)) 36
+    or_refused (every is_finite (raw_values f)) ValueNotFinite
     -- Has the edge list room?
-    (or_refused (leb (length (lattice_edges f) * 3) edge_places) 35
-    (Sampled (nodes f.cells) (length (lattice_edges f))))
+    (or_refused (leb (length (lattice_edges f) * 3) edge_places) Room
+    (all_sampled (nodes f.cells) (length (lattice_edges f))))
 
 unfoldable pub lattice_of : SampledField → LatticeLists → Lattice
 unfolding sheet_ok after_nodes
 lattice_of f lent =
     -- Field sheet, levels and box as document 01 has them?
-    or_refused (sheet_ok f.coefficients f.powers f.levels f.bounds) 13
+    or_refused (sheet_ok f.coefficients f.powers f.levels f.bounds) FieldSheet
     -- 4 to 128 cells?
-    (or_refused (leb 4 f.cells && leb f.cells 128) 34
+    (or_refused (leb 4 f.cells && leb f.cells 128) Cells
     -- Have grid and value list room?
-    (or_refused (leb (nodes f.cells * 3) (length lent.grid) && leb (nodes f.cells) (length lent.values)) 35
+    (or_refused (leb (nodes f.cells * 3) (length lent.grid) && leb (nodes f.cells) (length lent.values)) Room
     (after_nodes f (length lent.edges))))
 
 -- 0 where the field is sampled, else the number of the refusal
 abbrev pub lattice_number : Lattice → ℕ
-lattice_number (Sampled nodes edges) = 0
-lattice_number (Refused number) = number
+lattice_number (Ok sampled) = 0
+lattice_number (Err why) = number why
 
 -- nodes in the grid, nodes in the values, edges; all 0 after a refusal
 abbrev pub lattice_counts : Lattice → List ℕ
-lattice_counts (Sampled nodes edges) = nodes ∷ nodes ∷ edges ∷ []
-lattice_counts (Refused number) = 0 ∷ 0 ∷ 0 ∷ []
+lattice_counts (Ok s) = s.nodes ∷ s.nodes ∷ s.edges ∷ []
+lattice_counts (Err why) = 0 ∷ 0 ∷ 0 ∷ []
 
 -- ---- the lists afterwards
 
 -- what a list is given: nothing after a refusal
 abbrev pub when_sampled : {A : Type 0} → Lattice → List A → List A
-when_sampled (Sampled nodes edges) l = l
-when_sampled (Refused number) l = []
+when_sampled (Ok sampled) l = l
+when_sampled (Err why) l = []
 
 -- each list is what it is given, then 0
 pub record LatticeGiven (r : Lattice) (f : SampledField) (lent after : LatticeLists) : Type 0 where

@@ -1,20 +1,24 @@
 -- What the functions of `lattice` are handed and what they leave: indices of nodes, the fronts of the lists, edges noted one after the other. Definitions only.
 use Rattle.std.specs.Prelude.{ℕ, ◌+◌, ◌*◌, ◌≤◌, ◌<◌, ◌≡◌, cond, List, ltb, length, take, Float}
+use Rattle.std.specs.Result.{result_unwrap_or}
 use Rattle.std.proofs.lemmas.List.Edits.{sets}
 use Rattle.blank.specs.Blank.{blank}
 use Rattle.field.specs.Number.{plus_zero}
 use Rattle.lattice.specs.Node.{cube, along_x, along_y, along_z, grid}
 use Rattle.lattice.specs.Values.{sampled}
-use Rattle.lattice.specs.Edges.{Edge, stays_inside, step_end, edge_words}
-use Rattle.lattice.specs.Sample.{SampledField, LatticeLists, nodes, lattice_grid, lattice_values, lattice_edges, when_sampled}
-use Rattle.lattice.specs.declared.Lattice.{Lattice}
-use Rattle.lattice.specs.declared.Lattice.TheVariants.{Sampled, Refused}
+use Rattle.lattice.specs.Edges.{Edge, step_x, step_y, step_z, stays_inside, step_end, edge_words}
+use Rattle.lattice.specs.Sample.{SampledField, LatticeLists, Lattice, nodes, lattice_grid, lattice_values, lattice_edges, when_sampled}
+use Rattle.lattice.specs.declared.Sampled.{Sampled}
 use Rattle.lattice.specs.declared.nodes.Index.{Index}
 
 -- ---- indices
 
 abbrev pub index_of : ℕ → ℕ → Index
 index_of n a = record { x = along_x n a; y = along_y n a; z = along_z n a }
+
+-- what the step d adds
+abbrev pub step_index : ℕ → Index
+step_index d = record { x = step_x d; y = step_y d; z = step_z d }
 
 -- the index after p, with n nodes to a side
 abbrev pub next_index : ℕ → Index → Index
@@ -61,14 +65,15 @@ pub record EdgesNoted (new : List Edge) (count : ℕ) (list : List ℕ) (count' 
 
 -- ---- the lists
 
--- how many nodes and edges an answer has
+-- how many nodes and edges an answer has: none after a refusal
+abbrev pub counts_in : Lattice → Sampled
+counts_in r = result_unwrap_or r (record { nodes = 0; edges = 0 })
+
 abbrev pub nodes_in : Lattice → ℕ
-nodes_in (Sampled nodes edges) = nodes
-nodes_in (Refused number) = 0
+nodes_in r = (counts_in r).nodes
 
 abbrev pub edges_in : Lattice → ℕ
-edges_in (Sampled nodes edges) = edges
-edges_in (Refused number) = 0
+edges_in r = (counts_in r).edges
 
 -- the answer is `lattice`, and the fronts of the lists have what it counts
 pub record FrontsFilled (lattice : Lattice) (f : SampledField) (lent after : LatticeLists) (r : Lattice) : Type 0 where

@@ -1,7 +1,7 @@
 -- The field at the nodes, and the values near a level set onto it, as `extract` has it. Definitions only.
 use Rattle.std.specs.Prelude.{ℕ, zero, suc, Bool, false, ◌&&◌, cond, List, [], ◌∷◌, ◌++◌, map, Float}
 use Rattle.std.specs.Float.Ieee as Ieee
-use Rattle.std.specs.Float.{nan, inf, fin, binary64}
+use Rattle.std.specs.Float.{binary64, float_with_sign}
 use Rattle.std.specs.Float.Ieee.{of_bits}
 use Rattle.float.specs.Point.{less, times}
 use Rattle.float.specs.Order.{greater, is_finite}
@@ -24,20 +24,18 @@ sampled qs ns bounds cells zero = []
 sampled qs ns bounds cells (suc k) = sampled qs ns bounds cells k ++ (value qs ns (node bounds cells k) ∷ [])
 
 -- |x|
-unfoldable pub magnitude : Float → Float
-magnitude nan = nan
-magnitude (inf s) = inf false
-magnitude (fin s m e) = fin false m e
+abbrev pub magnitude : Float → Float
+magnitude x = float_with_sign false x
 
 -- the greatest of s and the values' magnitudes
 unfoldable pub largest : Float → List Float → Float
-unfolding magnitude greater
+unfolding float_with_sign greater
 largest s [] = s
 largest s (v ∷ vs) = largest (greater s (magnitude v)) vs
 
 -- the greater of s and a level's magnitude; a level that is not finite is left out
 unfoldable pub with_level : Float → Float → Float
-unfolding magnitude greater is_finite
+unfolding float_with_sign greater is_finite
 with_level s level = cond (is_finite level) (greater s (magnitude level)) s
 
 -- the scale of the sampled values and both levels
@@ -51,7 +49,7 @@ tolerance scale = times (times sixty_four epsilon) scale
 
 -- a value is within t of a finite level
 unfoldable pub near_level? : Float → Float → Float → Bool
-unfolding magnitude is_finite
+unfolding float_with_sign is_finite
 near_level? t level v = is_finite level && Ieee.le (magnitude (less v level)) t
 
 -- it is then set onto the level

@@ -2,37 +2,29 @@
 ghost use Rattle.std.specs.Prelude.{◌≡◌, ◌+◌, ◌*◌, ◌≤◌, ◌<◌, cond, [], ◌∷◌, length, set};
 ghost use Rattle.lattice.specs.Node as Node;
 ghost use Rattle.lattice.specs.Edges as Edges;
-ghost use Rattle.lattice.specs.Stages.{end_or_start, AtNode, EdgesNoted};
+ghost use Rattle.lattice.specs.Stages.{step_index, end_or_start, AtNode, EdgesNoted};
 
 use crate::nodes::{Index, next};
 
-// What the seven steps add along x, y and z.
-fn step_x(d: usize) -> usize
+// What the seven steps add along x, y and z. (A step is its number, as the list has it.)
+fn step(d: usize) -> Index
     requires { d < 7 }
-    ensures { result ≡ Edges.step_x d }
+    ensures { result ≡ step_index d }
 {
-    let steps: [usize; 7] = [1, 0, 0, 1, 1, 0, 1];
+    let steps = [
+        Index { x: 1, y: 0, z: 0 },
+        Index { x: 0, y: 1, z: 0 },
+        Index { x: 0, y: 0, z: 1 },
+        Index { x: 1, y: 1, z: 0 },
+        Index { x: 1, y: 0, z: 1 },
+        Index { x: 0, y: 1, z: 1 },
+        Index { x: 1, y: 1, z: 1 },
+    ];
     steps[d]
 }
 
-fn step_y(d: usize) -> usize
-    requires { d < 7 }
-    ensures { result ≡ Edges.step_y d }
-{
-    let steps: [usize; 7] = [0, 1, 0, 1, 0, 1, 1];
-    steps[d]
-}
-
-fn step_z(d: usize) -> usize
-    requires { d < 7 }
-    ensures { result ≡ Edges.step_z d }
-{
-    let steps: [usize; 7] = [0, 0, 1, 0, 1, 1, 1];
-    steps[d]
-}
-
-// How far the step d goes on in the numbers of nodes. (By a table of its own: `step_end` is asked of every step of
-// every node.)
+// How far the step d goes on in the numbers of nodes. By a table of its own: `step_end` asks `step` at every step of
+// every node, and with a second caller that is slower.
 pub fn offset(n: usize, d: usize) -> usize
     requires { (n ≤ 129) × (d < 7) }
     ensures { result ≡ Edges.offset n d }
@@ -44,16 +36,14 @@ pub fn offset(n: usize, d: usize) -> usize
 
 // Whether a level is finite and has one of two values below it and the other not. That it is finite is asked last,
 // since of most edges both values are on one side.
+#[tactic(auto, unfolding(crate::specs::Edges::crossed_by))]
 fn crossed_by(level: f64, v: f64, w: f64) -> bool
     ensures { result ≡ Edges.crossed_by level v w }
 {
-    if (v < level) == (w < level) {
-        return false;
-    }
-    float::is_finite(level)
+    (v < level) != (w < level) && float::is_finite(level)
 }
 
-// Stores a number, if its place is there.
+// Stores a number, if its place is there. (Through `get_mut` the list is not known afterwards.)
 fn put(list: &mut [u32], i: usize, x: usize)
     requires { x < 4294967296 }
     ensures { list.new ≡ set list.old i x }
@@ -63,7 +53,8 @@ fn put(list: &mut [u32], i: usize, x: usize)
     }
 }
 
-// Notes an edge behind `count` others if the level crosses it. Returns how many there are then.
+// Notes an edge behind `count` others if the level crosses it. Returns how many there are then. (A label is a word of
+// the list that C reads.)
 fn note(
     level: f64,
     v: f64,
@@ -92,78 +83,60 @@ fn step_end(n: usize, a: usize, p: Index, d: usize) -> usize
     requires { (AtNode n a p) × (d < 7) }
     ensures { result ≡ end_or_start n a d }
 {
-    let x = step_x(d);
-    let y = step_y(d);
-    let z = step_z(d);
-    if n <= p.x + x {
+    let by = step(d);
+    if n <= p.x + by.x || n <= p.y + by.y || n <= p.z + by.z {
         return a;
     }
-    if n <= p.y + y {
-        return a;
-    }
-    if n <= p.z + z {
-        return a;
-    }
-    a + (x + n * y + n * n * z)
+    a + (by.x + n * by.y + n * n * by.z)
 }
 
-// The edges from node a of index p by the step d: label 0 is the upper level, 1 the lower.
-fn note_step(
-    values: &[f64],
-    lower: f64,
-    upper: f64,
-    n: usize,
-    a: usize,
-    p: Index,
-    d: usize,
-    count: usize,
-    list: &mut [u32],
-) -> usize
-    requires { (length values.now ≡ Node.cube n) × (AtNode n a p) × (d < 7) × (count ≤ a * 14 + d * 2) }
-    ensures { EdgesNoted (Edges.crossed_among n lower upper values.now (a * 14 + d * 2) 2) count list.old result list.new }
-{
-    let b = step_end(n, a, p, d);
-    let v = values[a];
-    let w = values[b];
-    let more = note(upper, v, w, a, d, 0, count, list);
-    note(lower, v, w, a, d, 1, more, list)
+// The nodes of a lattice, n to a side, by their values, and the levels.
+#[derive(Clone, Copy)]
+pub struct Nodes<'a> {
+    pub n: usize,
+    pub values: &'a [f64],
+    pub lower: f64,
+    pub upper: f64,
+    ghost some: { 1 ≤ n },
+    ghost few: { n ≤ 129 },
+    ghost each: { length values.now ≡ Node.cube n },
 }
 
-// The edges from node a of index p.
-fn note_node(
-    values: &[f64],
-    lower: f64,
-    upper: f64,
-    n: usize,
-    a: usize,
-    p: Index,
-    count: usize,
-    list: &mut [u32],
-) -> usize
-    requires { (length values.now ≡ Node.cube n) × (AtNode n a p) × (count ≤ a * 14) }
-    ensures { EdgesNoted (Edges.crossed_among n lower upper values.now (a * 14) 14) count list.old result list.new }
-{
-    let mut found = count;
-    let mut d: usize = 0;
-    while d < 7 {
-        found = note_step(values, lower, upper, n, a, p, d, found, list);
-        d += 1;
+impl<'a> Nodes<'a> {
+    // The edges from node a of index p by the step d: label 0 is the upper level, 1 the lower.
+    fn note_step(&self, a: usize, p: Index, d: usize, count: usize, list: &mut [u32]) -> usize
+        requires { (AtNode self.now.n a p) × (d < 7) × (count ≤ a * 14 + d * 2) }
+        ensures { EdgesNoted (Edges.crossed_among self.now.n self.now.lower self.now.upper self.now.values.now (a * 14 + d * 2) 2) count list.old result list.new }
+    {
+        let b = step_end(self.n, a, p, d);
+        let v = self.values[a];
+        let w = self.values[b];
+        let more = note(self.upper, v, w, a, d, 0, count, list);
+        note(self.lower, v, w, a, d, 1, more, list)
     }
-    found
-}
 
-// All crossed edges. Returns how many there are.
-pub fn note_edges(values: &[f64], lower: f64, upper: f64, n: usize, list: &mut [u32]) -> usize
-    requires { (1 ≤ n) × (n ≤ 129) × (length values.now ≡ Node.cube n) }
-    ensures { EdgesNoted (Edges.crossed_edges n lower upper values.now) 0 list.old result list.new }
-{
-    let mut found: usize = 0;
-    let mut index = Index { x: 0, y: 0, z: 0 };
-    let mut a: usize = 0;
-    while a < values.len() {
-        found = note_node(values, lower, upper, n, a, index, found, list);
-        index = next(n, index);
-        a += 1;
+    // The edges from node a of index p.
+    fn note_node(&self, a: usize, p: Index, count: usize, list: &mut [u32]) -> usize
+        requires { (AtNode self.now.n a p) × (count ≤ a * 14) }
+        ensures { EdgesNoted (Edges.crossed_among self.now.n self.now.lower self.now.upper self.now.values.now (a * 14) 14) count list.old result list.new }
+    {
+        let mut found = count;
+        for d in 0..7 {
+            found = self.note_step(a, p, d, found, list);
+        }
+        found
     }
-    found
+
+    // All crossed edges. Returns how many there are.
+    pub fn note_edges(&self, list: &mut [u32]) -> usize
+        ensures { EdgesNoted (Edges.crossed_edges self.now.n self.now.lower self.now.upper self.now.values.now) 0 list.old result list.new }
+    {
+        let mut found: usize = 0;
+        let mut index = Index { x: 0, y: 0, z: 0 };
+        for a in 0..self.values.len() {
+            found = self.note_node(a, index, found, list);
+            index = next(self.n, index);
+        }
+        found
+    }
 }

@@ -3,10 +3,11 @@ ghost use Rattle.std.specs.Prelude.{◌≡◌, ◌<◌};
 ghost use Rattle.lattice.specs.Node as Node;
 ghost use Rattle.lattice.specs.Stages.{next_index, InLattice, Fillable, NodesFilled};
 
+use field::Terms;
 use float::Point;
 
 // A node's index along x, y and z.
-#[derive(Clone, Copy)]
+#[derive(Clone, Copy, Debug, PartialEq, Eq)]
 pub struct Index {
     pub x: usize,
     pub y: usize,
@@ -19,17 +20,13 @@ pub fn next(n: usize, p: Index) -> Index
     ensures { result ≡ next_index n p }
 {
     if p.x + 1 < n {
-        return Index {
-            x: p.x + 1,
-            y: p.y,
-            z: p.z,
-        };
+        return Index { x: p.x + 1, ..p };
     }
     if p.y + 1 < n {
         return Index {
             x: 0,
             y: p.y + 1,
-            z: p.z,
+            ..p
         };
     }
     Index {
@@ -43,7 +40,7 @@ pub fn next(n: usize, p: Index) -> Index
 fn coordinate(lower: f64, upper: f64, c: u32, cells: u32) -> f64
     ensures { result ≡ Node.coordinate lower upper c cells }
 {
-    lower + (upper - lower) * (c as f64) / (cells as f64)
+    lower + (upper - lower) * f64::from(c) / f64::from(cells)
 }
 
 // The node of an index.
@@ -60,26 +57,23 @@ fn node(bounds: &[f64; 6], cells: u32, p: Index) -> Point
 
 // All nodes, three numbers each, and the field at each.
 pub fn fill_nodes(
-    coefficients: &[f64],
-    powers: &[u32],
+    terms: &Terms,
     bounds: &[f64; 6],
     cells: u32,
     grid: &mut [f64],
     values: &mut [f64],
 )
     requires { Fillable cells grid.old values.old }
-    ensures { NodesFilled coefficients.now powers.now bounds.now cells grid.old grid.new values.new }
+    ensures { NodesFilled terms.now.coefficients.now terms.now.powers.now bounds.now cells grid.old grid.new values.new }
 {
     let n = cells as usize + 1;
     let mut index = Index { x: 0, y: 0, z: 0 };
-    let mut a: usize = 0;
-    while a < values.len() {
+    for a in 0..values.len() {
         let p = node(bounds, cells, index);
         grid[a * 3] = p.x;
         grid[a * 3 + 1] = p.y;
         grid[a * 3 + 2] = p.z;
-        values[a] = field::value(coefficients, powers, p);
+        values[a] = terms.value(p);
         index = next(n, index);
-        a += 1;
     }
 }

@@ -13,16 +13,15 @@ use Rattle.surface.specs.PageTwelve.{Relisted}
 use Rattle.surface.proofs.Flat.{length-triangles}
 use borrow.Author.Tests.{le-leb}
 use Rattle.questions.specs.Questions.{ask, surface_questions}
-use Rattle.questions.specs.Refusal.{asked_number}
-use Rattle.questions.specs.declared.Asked.{Asked}
-use Rattle.questions.specs.declared.Asked.TheVariants as asked
+use Rattle.std.specs.Prelude.{Ok, Err}
+use Rattle.questions.specs.Refusal.{Asked, asked_number}
+use Rattle.questions.specs.declared.Refusal.TheVariants.{OutlineRoom}
 use Rattle.questions.proofs.Laws.{passed_admitted}
 use Rattle.outlines.specs.Outline.{Place, place_words}
 use Rattle.outlines.proofs.Closing.{outline-laws}
 use Rattle.layers.specs.Layer.{Layered, above_layer, layer_crossings, layer_loops, layer_outlines}
 use Rattle.layers.specs.Call.{outline_questions, after_questions, layer_of, layer_number, layer_counts}
 use Rattle.layers.specs.Laws.{OutlinesClose, HoldsOutlines, LayerLists, LayerLaws}
-use Rattle.layers.specs.declared.Layer.TheVariants.{Listed}
 use Rattle.layers.proofs.Questions.{by-answers, layered_iff, outlinable, zero-passed}
 
 -- for every closed surface and every height the outlines close
@@ -33,13 +32,13 @@ outlines-close points corners height c = (outline-laws (above_layer points heigh
 crossed-few : (points : List Float) (corners : List ℕ) (height : ℤ) → Closed (triangles corners) → length corners % 3 ≡ 0 → length (layer_crossings points corners height) ≤ length corners / 3
 crossed-few points corners height c h = let l = outline-laws (above_layer points height) (triangles corners) c in omega (arith, l.few, length-triangles (length corners / 3) corners (omega arith))
 
-enough : (points : List Float) (corners labels work : List ℕ) (height : ℤ) (words : ℕ) → surface_questions points corners labels work ≡ asked.Passed → Layered points height → length corners ≤ words
-    → outline_questions points corners labels work height words ≡ asked.Passed
+enough : (points : List Float) (corners labels work : List ℕ) (height : ℤ) (words : ℕ) → surface_questions points corners labels work ≡ Ok tt → Layered points height → length corners ≤ words
+    → outline_questions points corners labels work height words ≡ Ok tt
 enough points corners labels work height words e l h =
     let a = passed_admitted points corners labels work e in
     let few = crossed-few points corners height a.closed a.corners_in_threes in
     by-answers points corners labels work height words e ((layered_iff points height).1 l)
-    ∙ ap (λ (b : Bool). ask b 41 asked.Passed) (le-leb (length (layer_crossings points corners height)) (words / 3) (omega arith))
+    ∙ ap (λ (b : Bool). ask b OutlineRoom (Ok tt)) (le-leb (length (layer_crossings points corners height)) (words / 3) (omega arith))
 
 -- as many words are 0 behind the same places
 same-words : (ps : List Place) (m n : ℕ) (a b : List ℕ) → a ≡ place_words ps ++ replicate m 0 → b ≡ place_words ps ++ replicate n 0 → length a ≡ length b → a ≡ b
@@ -94,21 +93,21 @@ layer_laws = layer_laws_of LayerLists (λ points corners height list l. l)
 
 module _ (points : List Float) (corners labels work : List ℕ) (height : ℤ) (room : ℕ) where
   -- 0 is the number of no refusal
-  pub zero-listed : layer_number (layer_of points corners labels work height room) ≡ 0 → outline_questions points corners labels work height room ≡ asked.Passed
+  pub zero-listed : layer_number (layer_of points corners labels work height room) ≡ 0 → outline_questions points corners labels work height room ≡ Ok tt
   zero-listed z = zero-passed points corners labels work height room (go (outline_questions points corners labels work height room) z)
     where
       go : (q : Asked) → layer_number (after_questions points corners height q) ≡ 0 → asked_number q ≡ 0
-      go asked.Passed f = refl
-      go (asked.Refused why) f = f
+      go (Ok x) f = refl
+      go (Err why) f = f
 
   -- no more places are filled than there are triangles, and no more loops
-  pub small-counts : {places loops : ℕ} → layer_of points corners labels work height room ≡ Listed places loops → (places ≤ 32768) × (loops ≤ 32768)
+  pub small-counts : {places loops : ℕ} → layer_of points corners labels work height room ≡ Ok (record { places = places; loops = loops }) → (places ≤ 32768) × (loops ≤ 32768)
   small-counts {places} {loops} e =
       let p = zero-listed (ap layer_number e) in
       let a = (outlinable points corners labels work height room p).surface in
       let few = crossed-few points corners height a.closed a.corners_in_threes in
       let fewer = (outline-laws (above_layer points height) (triangles corners) a.closed).fewer in
-      let f : layer_counts (Listed places loops) ≡ layer_counts (after_questions points corners height asked.Passed) = ap layer_counts (sym e ∙ ap (after_questions points corners height) p) in
+      let f : layer_counts (Ok (record { places = places; loops = loops })) ≡ layer_counts (after_questions points corners height (Ok tt)) = ap layer_counts (sym e ∙ ap (after_questions points corners height) p) in
       let x : places ≡ length (layer_crossings points corners height) = ap first f in
       let y : loops ≡ length (layer_loops points corners height) = ap second f in
       (omega (arith, a.few-triangles), omega (arith, a.few-triangles))

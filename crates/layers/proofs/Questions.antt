@@ -1,15 +1,14 @@
 -- Question 40 by its tests, all questions in turn, and the whole: each way out of the code. Assumes nothing.
-use Prim.Native.Nat.{ℕ, ◌+◌, ◌-◌, ◌*◌, ◌/◌, ◌≤◌}
+use Prim.Native.Nat.{ℕ, ◌*◌, ◌/◌, ◌≤◌}
 use mathlib.Core.Path.{◌≡◌, refl, sym, ap, ◌∙◌, subst}
 use mathlib.Core.Logic.{◌↔◌}
 use mathlib.Core.Bool.{Bool, true, false, not, ◌&&◌, cond}
-use mathlib.Core.List.{List, ◌++◌, append-nil}
+use mathlib.Core.List.{List, ◌++◌}
 use native.Mathlib.Omega.{arith}
 use lib.Dec.{T, leb, ltb, leb→le}
 use lib.IntN.{ℤ, pos, negsuc, nat_abs}
 use lib.Signed.{lt_z, le_z, le_z_yes}
 use lib.ListN.{length, drop, replicate, length-replicate}
-use lib.Seq.{drop-length}
 use lib.Ieee.{Float}
 use borrow.Author.Tests.{leb-true, leb-false, le-ltb, lt-ltb}
 use Rattle.surface.proofs.Bools.{both}
@@ -17,14 +16,13 @@ use Rattle.closing.specs.Closing.{Zeroed}
 use Rattle.closing.proofs.Whole.{drop-zeros, far_clear}
 use Rattle.questions.specs.Admitted.{Admitted}
 use Rattle.questions.specs.Questions.{ask, and_then, surface_questions, needed, cleared, work_after, Admits}
-use Rattle.questions.specs.Refusal.{asked_number}
+use Rattle.std.specs.Prelude.{Result, Ok, Err}
+use Rattle.questions.specs.Refusal.{Asked, asked_number}
 use Rattle.questions.specs.declared.Refusal.{Refusal}
-use Rattle.questions.specs.declared.Refusal.TheVariants.{Question}
-use Rattle.questions.specs.declared.Asked.{Asked}
-use Rattle.questions.specs.declared.Asked.TheVariants as asked
+use Rattle.questions.specs.declared.Refusal.TheVariants.{Height, OutlineRoom}
 use Rattle.questions.proofs.Counted.{not_both}
 use Rattle.questions.proofs.Laws.{first-passed, then-passed, passed_admitted}
-use Rattle.questions.proofs.Telling.{passed_telling, ask_telling, then_telling, surface_telling}
+use Rattle.questions.proofs.Telling.{telling}
 use Rattle.units.specs.Units.{all_on_units?}
 use Rattle.units.proofs.Tests.{all-on-units_iff}
 use Rattle.outlines.specs.Outline.{place_words}
@@ -32,7 +30,6 @@ use Rattle.layers.specs.Layer.{Layered, layered?, layer_crossings, layer_outline
 use Rattle.layers.specs.Call.{places_question, layer_questions, outline_questions, after_questions, layer_of, layer_number, list_after, LayerCall}
 use Rattle.layers.specs.Stages.{Crossable, LayerTraced}
 use Rattle.layers.specs.declared.Layer.{Layer}
-use Rattle.layers.specs.declared.Layer.TheVariants.{Refused}
 
 -- ---- question 40
 
@@ -57,15 +54,8 @@ module _ (points : List Float) (height : ℤ) where
       let high = at-most_or_above height (pos 32767) ∙ ap not q in
       λ i. low i && (high i && r i)
 
-  pub too_low : lt_z height (negsuc 32767) ≡ true → false ≡ layered? points height
-  too_low p = sym (by_tests p refl refl)
-
-  module _ (low : lt_z height (negsuc 32767) ≡ false) where
-    pub too_high : lt_z (pos 32767) height ≡ true → false ≡ layered? points height
-    too_high q = sym (by_tests low q refl)
-
-    pub in_range : lt_z (pos 32767) height ≡ false → {d : Bool} → all_on_units? points ≡ d → d ≡ layered? points height
-    in_range q r = sym (by_tests low q r)
+  pub in_range : lt_z height (negsuc 32767) ≡ false → lt_z (pos 32767) height ≡ false → {d : Bool} → all_on_units? points ≡ d → d ≡ layered? points height
+  in_range p q r = sym (by_tests p q r)
 
   passed-layered : layered? points height ≡ true → Layered points height
   passed-layered e =
@@ -87,6 +77,10 @@ module _ (points : List Float) (height : ℤ) where
   pub layered_iff : (layered? points height ≡ true) ↔ Layered points height
   layered_iff = (passed-layered, layered-passes)
 
+-- of a height that is read back from its bits
+pub answered : (points : List Float) {h h' : ℤ} → h' ≡ h → {b d : Bool} → b ≡ layered? points h' → b ≡ d → layered? points h ≡ d
+answered points e f g = ap (layered? points) (sym e) ∙ sym f ∙ g
+
 -- a height in range is at most 32,768 either way
 pub height_small : (points : List Float) (height : ℤ) → Layered points height → nat_abs height ≤ 32768
 height_small points (pos n) h = let l = leb→le n 32767 h.highest.le in omega arith
@@ -96,22 +90,19 @@ height_small points (negsuc n) h = let l = leb→le n 32767 h.lowest.le in omega
 
 module _ (points : List Float) (corners labels work : List ℕ) (height : ℤ) (room : ℕ) where
   pub by-answers : {q : Asked} {b : Bool} → surface_questions points corners labels work ≡ q → layered? points height ≡ b
-      → outline_questions points corners labels work height room ≡ and_then q (ask b 40 (places_question points corners height room))
+      → outline_questions points corners labels work height room ≡ and_then q (ask b Height (places_question points corners height room))
   unfolding outline_questions layer_questions
-  by-answers q b = λ i. and_then (q i) (ask (b i) 40 (places_question points corners height room))
+  by-answers q b = λ i. and_then (q i) (ask (b i) Height (places_question points corners height room))
 
   abbrev first : Asked
   first = surface_questions points corners labels work
 
   abbrev later : Asked
-  later = ask (layered? points height) 40 (places_question points corners height room)
+  later = ask (layered? points height) Height (places_question points corners height room)
 
   -- 0 is the number of questions that are passed, and of no refusal
-  pub zero-passed : asked_number (outline_questions points corners labels work height room) ≡ 0 → outline_questions points corners labels work height room ≡ asked.Passed
-  zero-passed z =
-      let e = by-answers refl refl in
-      let last = ask_telling (leb (length (layer_crossings points corners height)) (room / 3)) 41 asked.Passed (omega arith) passed_telling in
-      e ∙ then_telling first later (surface_telling points corners labels work) (ask_telling (layered? points height) 40 (places_question points corners height room) (omega arith) last) (ap asked_number (sym e) ∙ z)
+  pub zero-passed : asked_number (outline_questions points corners labels work height room) ≡ 0 → outline_questions points corners labels work height room ≡ Ok tt
+  zero-passed z = telling (outline_questions points corners labels work height room) z
 
   -- what is known where all are passed
   pub record Outlinable : Type 0 where
@@ -119,26 +110,26 @@ module _ (points : List Float) (corners labels work : List ℕ) (height : ℤ) (
     pub layered : Layered points height
     pub places : length (layer_crossings points corners height) ≤ room / 3
 
-  pub outlinable : outline_questions points corners labels work height room ≡ asked.Passed → Outlinable
+  pub outlinable : outline_questions points corners labels work height room ≡ Ok tt → Outlinable
   outlinable e =
-      let both-passed : and_then first later ≡ asked.Passed = sym (by-answers refl refl) ∙ e in
-      let l = asked_yes (layered? points height) 40 (places_question points corners height room) (then-passed first later both-passed) in
-      let p = asked_yes (leb (length (layer_crossings points corners height)) (room / 3)) 41 asked.Passed l.1 in
+      let both-passed : and_then first later ≡ Ok tt = sym (by-answers refl refl) ∙ e in
+      let l = asked_yes (layered? points height) Height (places_question points corners height room) (then-passed first later both-passed) in
+      let p = asked_yes (leb (length (layer_crossings points corners height)) (room / 3)) OutlineRoom (Ok tt) l.1 in
       record {
         surface = passed_admitted points corners labels work (first-passed first later both-passed);
         layered = (layered_iff points height).0 l.0;
         places = leb-true (length (layer_crossings points corners height)) (room / 3) p.0;
       }
     where
-      asked_yes : (b : Bool) (n : ℕ) (rest : Asked) → ask b n rest ≡ asked.Passed → (b ≡ true) × (rest ≡ asked.Passed)
+      asked_yes : (b : Bool) (n : Refusal) (rest : Asked) → ask b n rest ≡ Ok tt → (b ≡ true) × (rest ≡ Ok tt)
       asked_yes true n rest e = (refl, e)
       asked_yes false n rest e = absurd (not_both e refl)
 
 -- ---- the whole
 
 module _ (points : List Float) (corners labels work : List ℕ) (height : ℤ) (work₁ : List ℕ) (asked₁ : Asked) (admits : Admits points corners labels work work₁ asked₁) where
-  module _ (e : asked₁ ≡ asked.Passed) where
-    passed : surface_questions points corners labels work ≡ asked.Passed
+  module _ (e : asked₁ ≡ Ok tt) where
+    passed : surface_questions points corners labels work ≡ Ok tt
     passed = sym admits.answer ∙ e
 
     words_are : work₁ ≡ cleared (needed points corners) work
@@ -154,61 +145,58 @@ module _ (points : List Float) (corners labels work : List ℕ) (height : ℤ) (
         }
 
   -- the list is cleared first
-  module _ (list blank : List ℕ) (cleared-list : blank ≡ replicate (length list) 0 ++ drop (length list) list) where
-    blank-is : blank ≡ replicate (length list) 0
-    blank-is = cleared-list ∙ ap (λ (l : List ℕ). replicate (length list) 0 ++ l) (drop-length list) ∙ append-nil (replicate (length list) 0)
-
+  module _ (list blank : List ℕ) (blank-is : blank ≡ replicate (length list) 0) where
     same-room : length blank ≡ length list
     same-room = ap length blank-is ∙ length-replicate (length list) 0
 
     abbrev layer_is : {q : Asked} {b : Bool} → surface_questions points corners labels work ≡ q → layered? points height ≡ b
-        → layer_of points corners labels work height (length list) ≡ after_questions points corners height (and_then q (ask b 40 (places_question points corners height (length list))))
+        → layer_of points corners labels work height (length list) ≡ after_questions points corners height (and_then q (ask b Height (places_question points corners height (length list))))
     layer_is q b = ap (after_questions points corners height) (by-answers points corners labels work height (length list) q b)
 
-    pub at_first : {why : Refusal} → asked₁ ≡ asked.Refused why → LayerCall points corners labels work work₁ height list blank (Refused why)
+    pub at_first : {why : Refusal} → asked₁ ≡ Err why → LayerCall points corners labels work work₁ height list blank (Err why)
     at_first e = record {
       answer = sym (layer_is (sym admits.answer ∙ e) refl);
       places = blank-is;
       words = admits.words ∙ ap (λ (a : Asked). work_after (asked_number a) points corners work) e;
     }
 
-    module _ (e : asked₁ ≡ asked.Passed) where
-      pub at_forty : layered? points height ≡ false → LayerCall points corners labels work work₁ height list blank (Refused (Question 40))
+    module _ (e : asked₁ ≡ Ok tt) where
+      pub at_forty : layered? points height ≡ false → LayerCall points corners labels work work₁ height list blank (Err Height)
       at_forty b = record { answer = sym (layer_is (passed e) b); places = blank-is; words = words_are e }
 
-      module _ (b : layered? points height ≡ true) (work₂ list' : List ℕ) (layer : Layer) (t : LayerTraced points corners work₁ work₂ height blank list' layer) where
+      module _ (b : layered? points height ≡ true) (work₂ list' : List ℕ) (layer : Result Layer Refusal) (t : LayerTraced points corners work₁ work₂ height blank list' layer) where
         answer-is : layer ≡ layer_of points corners labels work height (length list)
         answer-is = t.answer ∙ ap (λ (n : ℕ). after_questions points corners height (places_question points corners height n)) same-room ∙ sym (layer_is (passed e) b)
 
         abbrev count : ℕ
         count = length (layer_crossings points corners height)
 
-        listed : (d : Bool) → leb count (length list / 3) ≡ d → list' ≡ list_after (after_questions points corners height (ask d 41 asked.Passed)) points corners height list
+        listed : (d : Bool) → leb count (length list / 3) ≡ d → list' ≡ list_after (after_questions points corners height (ask d OutlineRoom (Ok tt))) points corners height list
         listed d f =
             let test : leb count (length blank / 3) ≡ d = ap (λ (n : ℕ). leb count (n / 3)) same-room ∙ f in
             t.places ∙ ap (λ (x : Bool). cond x (place_words (layer_outlines points corners height) ++ drop (3 * count) blank) blank) test ∙ go d f
           where
             go : (d : Bool) → leb count (length list / 3) ≡ d
-                → cond d (place_words (layer_outlines points corners height) ++ drop (3 * count) blank) blank ≡ list_after (after_questions points corners height (ask d 41 asked.Passed)) points corners height list
+                → cond d (place_words (layer_outlines points corners height) ++ drop (3 * count) blank) blank ≡ list_after (after_questions points corners height (ask d OutlineRoom (Ok tt))) points corners height list
             go true f =
                 let l = leb-true count (length list / 3) f in
                 ap (λ (x : List ℕ). place_words (layer_outlines points corners height) ++ x) (ap (drop (3 * count)) blank-is ∙ drop-zeros (length list) (3 * count) (omega arith))
             go false f = blank-is
 
-        late : (d : Bool) → work_after (layer_number (after_questions points corners height (ask d 41 asked.Passed))) points corners work ≡ cleared (needed points corners) work
+        late : (d : Bool) → work_after (layer_number (after_questions points corners height (ask d OutlineRoom (Ok tt)))) points corners work ≡ cleared (needed points corners) work
         late true = refl
         late false = refl
 
         pub at_end : (work₃ : List ℕ) → Zeroed corners (length points / 3) work₂ work₃ → LayerCall points corners labels work work₃ height list list' layer
         at_end work₃ z =
             let d = leb count (length list / 3) in
-            let same : layer ≡ after_questions points corners height (ask d 41 asked.Passed) = answer-is ∙ layer_is (passed e) b in
+            let same : layer ≡ after_questions points corners height (ask d OutlineRoom (Ok tt)) = answer-is ∙ layer_is (passed e) b in
             record {
               answer = answer-is;
-              places = listed d refl ∙ ap (λ (x : Layer). list_after x points corners height list) (sym same);
+              places = listed d refl ∙ ap (λ (x : Result Layer Refusal). list_after x points corners height list) (sym same);
               words =
                   z
                   ∙ ap (λ (r : List ℕ). replicate (needed points corners) 0 ++ r) (t.far ∙ far_clear (needed points corners) work₁ work (words_are e))
                   ∙ sym (late d)
-                  ∙ ap (λ (x : Layer). work_after (layer_number x) points corners work) (sym same);
+                  ∙ ap (λ (x : Result Layer Refusal). work_after (layer_number x) points corners work) (sym same);
             }

@@ -19,8 +19,8 @@ use Rattle.halfedges.specs.Place.{at}
 use Rattle.halfedges.proofs.Turns.{same_or}
 use Rattle.closing.specs.Closing.{needed}
 use Rattle.questions.specs.Questions.{ask}
-use Rattle.questions.specs.declared.Refusal.TheVariants.{Question}
-use Rattle.questions.specs.declared.Asked.TheVariants.{Passed}
+use Rattle.std.specs.Prelude.{Ok, Err}
+use Rattle.questions.specs.declared.Refusal.TheVariants.{OutlineRoom}
 use Rattle.sides.proofs.Whole.{far_of_lem}
 use Rattle.outlines.specs.Side.{Side}
 use Rattle.outlines.specs.Crossing.{crossings}
@@ -32,7 +32,6 @@ use Rattle.outlines.proofs.Stepping.{Spot, has-spot}
 use Rattle.layers.specs.Layer.{above_layer, layer_crossings, layer_outlines}
 use Rattle.layers.specs.Call.{after_questions}
 use Rattle.layers.specs.Stages.{KindsNoted, Crossable, LayerTraced}
-use Rattle.layers.specs.declared.Layer.TheVariants.{Listed, Refused}
 use Rattle.layers.proofs.Plane.{above_level}
 
 -- ---- the kinds are noted
@@ -113,23 +112,23 @@ module _ (points : List Float) (c w : List ℕ) (height : ℤ) (given : Crossabl
         total-is : total ≡ length (layer_crossings points c height)
         total-is = prepared.total-is ∙ ap length sides-same
 
-        pub refused : length list / 3 < total → LayerTraced points c w w₂ height list list (Refused (Question 41))
+        pub refused : length list / 3 < total → LayerTraced points c w w₂ height list list (Err OutlineRoom)
         refused l =
             let test : leb (length (layer_crossings points c height)) (length list / 3) ≡ false = lt-leb (length (layer_crossings points c height)) (length list / 3) (subst (λ (n : ℕ). length list / 3 < n) total-is l) in
             record {
-              answer = sym (ap (λ (b : Bool). after_questions points c height (ask b 41 Passed)) test);
+              answer = sym (ap (λ (b : Bool). after_questions points c height (ask b OutlineRoom (Ok tt))) test);
               places = sym (ap (λ (b : Bool). cond b (place_words (layer_outlines points c height) ++ drop (3 * length (layer_crossings points c height)) list) list) test);
               far = far_of_lem (needed c p) w₂ w (long₂ ∙ long₁) far₂;
             }
 
-        pub listed : total ≤ length list / 3 → (w₃ : List ℕ) → length w₃ ≡ length w₂ → (list' : List ℕ) (n : ℕ) → Outlined c p w₂ w₃ list list' n → LayerTraced points c w w₃ height list list' (Listed total n)
+        pub listed : total ≤ length list / 3 → (w₃ : List ℕ) → length w₃ ≡ length w₂ → (list' : List ℕ) (n : ℕ) → Outlined c p w₂ w₃ list list' n → LayerTraced points c w w₃ height list list' (Ok (record { places = total; loops = n }))
         listed l w₃ long₃ list' n o =
             let test : leb (length (layer_crossings points c height)) (length list / 3) ≡ true = le-leb (length (layer_crossings points c height)) (length list / 3) (subst (λ (n : ℕ). n ≤ length list / 3) total-is l) in
             let ts = triangles c in
             record {
               answer =
-                  ap₂ Listed total-is (o.loop-count ∙ ap length (sym (loops-same (above_by c p w₂) (above_layer points height) ts given.closed agree)))
-                  ∙ sym (ap (λ (b : Bool). after_questions points c height (ask b 41 Passed)) test);
+                  ap₂ (λ (x y : ℕ). Ok (record { places = x; loops = y })) total-is (o.loop-count ∙ ap length (sym (loops-same (above_by c p w₂) (above_layer points height) ts given.closed agree)))
+                  ∙ sym (ap (λ (b : Bool). after_questions points c height (ask b OutlineRoom (Ok tt))) test);
               places =
                   o.list
                   ∙ ap₂ (λ (a : List Place) (s : List Side). place_words a ++ drop (3 * length s) list) (sym (outlines-same (above_by c p w₂) (above_layer points height) ts given.closed agree)) sides-same

@@ -1,10 +1,9 @@
 -- What holds of the outlines of a layer (document 02, F-9), in readable form. Statements only; `layer_laws` of proofs/Laws proves them of `LayerLists`, and `outlines-close` of the same file the first one.
-use Rattle.std.specs.Prelude.{ℕ, ◌≤◌, ◌≡◌, List, ◌++◌, ℤ, length, replicate, Float}
+use Rattle.std.specs.Prelude.{ℕ, ◌≤◌, ◌≡◌, Ok, List, ◌++◌, ℤ, length, replicate, Float}
 use Rattle.surface.specs.Triangle.{triangles}
 use Rattle.surface.specs.Closed.{Closed}
 use Rattle.surface.specs.PageTwelve.{Relisted}
 use Rattle.questions.specs.Questions.{surface_questions}
-use Rattle.questions.specs.declared.Asked.TheVariants.{Passed}
 use Rattle.outlines.specs.Outline.{Place, place_words}
 use Rattle.outlines.specs.Request.{Outlines}
 use Rattle.outlines.specs.Laws.{AllClose}
@@ -27,8 +26,8 @@ pub record LayerLists (points : List Float) (corners : List ℕ) (height : ℤ) 
   pub labels : List ℕ
   pub work : List ℕ
   pub list : List ℕ
-  pub passed : outline_questions points corners labels work height (length list) ≡ Passed
-  pub places : list' ≡ list_after (after_questions points corners height Passed) points corners height list
+  pub passed : outline_questions points corners labels work height (length list) ≡ Ok tt
+  pub places : list' ≡ list_after (after_questions points corners height (Ok tt)) points corners height list
 
 -- the laws of lists, by what they are the lists of
 pub record LayerLaws (Says : List Float → List ℕ → ℤ → List ℕ → Type 0) : Type 0 where
@@ -44,5 +43,5 @@ pub record LayerLaws (Says : List Float → List ℕ → ℤ → List ℕ → Ty
   pub relisted : (points : List Float) (corners corners' : List ℕ) (height : ℤ) (list list' : List ℕ) → Relisted (triangles corners) (triangles corners') → Says points corners height list → Says points corners' height list'
       → length list' ≡ length list → list' ≡ list
   -- a surface that editing takes, with a height and coordinates that 40 lets in, is never refused where the list has as many words as the list of corners
-  pub enough : (points : List Float) (corners labels work : List ℕ) (height : ℤ) (words : ℕ) → surface_questions points corners labels work ≡ Passed → Layered points height → length corners ≤ words
-      → outline_questions points corners labels work height words ≡ Passed
+  pub enough : (points : List Float) (corners labels work : List ℕ) (height : ℤ) (words : ℕ) → surface_questions points corners labels work ≡ Ok tt → Layered points height → length corners ≤ words
+      → outline_questions points corners labels work height words ≡ Ok tt

@@ -7,17 +7,18 @@ ghost use Rattle.layers.specs.Layer.{layered?};
 ghost use Rattle.layers.specs.Call.{LayerCall};
 ghost use Rattle.layers.specs.Stages.{KindsNoted, Crossable, LayerTraced};
 
-use closing::{clear, clear_needed};
-use questions::{Asked, Refusal};
+use closing::clear_needed;
+use questions::Refusal;
+use surface::Mesh;
 
-// How many list places are filled and how many loops they hold, or why the call is refused.
-#[derive(Clone, Copy)]
-pub enum Layer {
-    Listed(usize, usize),
-    Refused(Refusal),
+// How many list places are filled, and how many loops they hold.
+#[derive(Clone, Copy, Debug, PartialEq, Eq)]
+pub struct Layer {
+    pub places: usize,
+    pub loops: usize,
 }
 
-// Question 40.
+// Question 40. (Two tests and no `&&`: the steps of a chain are named after its numbers.)
 fn layered(points: &[f64], height: i32) -> bool
     ensures { result ≡ layered? points.now height }
 {
@@ -35,7 +36,7 @@ fn level(height: i32) -> f64
     requires { nat_abs height ≤ 32768 }
     ensures { Is result height 1024 }
 {
-    (height as f64) * 0.0009765625
+    f64::from(height) * 0.0009765625
 }
 
 // A word for each point, from `base` on: 1 where it lies above the height, and else 0.
@@ -43,10 +44,8 @@ fn note_kinds(points: &[f64], level: f64, base: usize, work: &mut [u32])
     requires { base + length points.now / 3 ≤ length work.old }
     ensures { KindsNoted points.now level base work.old work.new (length points.now / 3) }
 {
-    let mut v = 0;
-    while v < points.len() / 3 {
-        work[base + v] = (level < points[3 * v + 2]) as u32;
-        v += 1;
+    for v in 0..points.len() / 3 {
+        work[base + v] = u32::from(level < points[3 * v + 2]);
     }
 }
 
@@ -57,7 +56,7 @@ fn trace(
     work: &mut [u32],
     height: i32,
     outline: &mut [u32],
-) -> Layer
+) -> Result<Layer, Refusal>
     requires { Crossable points.now corners.now work.old height }
     ensures { LayerTraced points.now corners.now work.old work.new height outline.old outline.new result }
 {
@@ -65,31 +64,30 @@ fn trace(
     note_kinds(points, level(height), count * 3 + corners.len() * 4, work);
     let total = outlines::crossed_sides(corners, count, work);
     if outline.len() / 3 < total {
-        return Layer::Refused(Refusal::Question(41));
+        return Err(Refusal::OutlineRoom);
     }
     let loops = outlines::outline(corners, count, work, outline, total);
-    Layer::Listed(total, loops)
+    Ok(Layer {
+        places: total,
+        loops,
+    })
 }
 
 // The loops in which the plane at half a unit above the height crosses the surface, three words of the list for each crossed side: editing's questions up to 12, then 40 and 41.
 pub fn outlines(
-    points: &[f64],
-    corners: &[u32],
-    labels: &[u8],
+    mesh: &Mesh,
     work: &mut [u32],
     height: i32,
     outline: &mut [u32],
-) -> Layer
-    ensures { LayerCall points.now corners.now labels.now work.old work.new height outline.old outline.new result }
+) -> Result<Layer, Refusal>
+    ensures { LayerCall mesh.now.points.now mesh.now.corners.now mesh.now.labels.now work.old work.new height outline.old outline.new result }
 {
-    clear(outline, outline.len());
-    if let Asked::Refused(why) = questions::admitted(points, corners, labels, work) {
-        return Layer::Refused(why);
+    outline.fill(0);
+    questions::admitted(mesh, work)?;
+    if !layered(mesh.points, height) {
+        return Err(Refusal::Height);
     }
-    if !layered(points, height) {
-        return Layer::Refused(Refusal::Question(40));
-    }
-    let found = trace(points, corners, work, height, outline);
-    clear_needed(corners, points.len() / 3, work);
+    let found = trace(mesh.points, mesh.corners, work, height, outline);
+    clear_needed(mesh.corners, mesh.points.len() / 3, work);
     found
 }

@@ -1,47 +1,40 @@
 -- What the needs of the marking functions ask, over plain lists with equations as arguments.
-use Prim.Native.Nat.{ℕ, zero, suc, ◌+◌, ◌*◌, ◌-◌, ◌/◌, ◌%◌, ◌<◌, ◌≤◌}
+use Prim.Native.Nat.{ℕ, zero, suc, ◌+◌, ◌*◌, ◌-◌, ◌/◌, ◌<◌, ◌≤◌}
 use native.Mathlib.Omega.{arith}
 use mathlib.Core.Path.{◌≡◌, refl, sym, ap, ◌∙◌, subst}
-use mathlib.Core.Logic.{◌⊎◌, inl, inr}
-use mathlib.Core.Bool.{Bool, true, false, not, true≢false, false≢true}
+use mathlib.Core.Bool.{Bool, true, false, true≢false, false≢true}
 use mathlib.Core.List.{List, ◌++◌}
 use lib.Dec.{eqb}
-use lib.ListN.{length, get_or, set, drop, replicate, length-set, length-replicate, get_or-replicate}
-use lib.Seq.{get_or-set_other}
-use borrow.Author.Tests.{eqb-true, eqb-false, not-true, not-false}
+use lib.ListN.{length, get_or, set, take, drop, replicate, length-replicate, get_or-replicate}
+use lib.Seq.{get_or-set_other, length-take-le}
 use mir.Val.{bool_byte}
-use Rattle.surface.specs.Closed.{one, sides, Closed}
+use Rattle.surface.specs.Closed.{one, sides}
 use Rattle.surface.specs.Triangle.{triangles}
 use Rattle.halfedges.specs.Place.{nx, pv, at, uses}
 use Rattle.halfedges.specs.Free.{Free}
 use Rattle.halfedges.proofs.Free.{free_more}
 use Rattle.halfedges.proofs.Fine.{nx-below}
 use Rattle.sides.specs.Side.{Twin}
-use Rattle.chains.specs.Chain.{from, Chained, walk}
+use Rattle.chains.specs.Chain.{from, walk}
 use Rattle.chains.proofs.Chain.{from_next, spot, Onward, onward-start, onward-next, onward-less, Upto, upto_start, upto_next}
+use Rattle.chains.proofs.Bits.{bit_one}
 use Rattle.chains.proofs.Clear.{at_front}
 use Rattle.chains.specs.Common.{lone}
 use Rattle.chains.specs.Marks.{Cleared, Lists, stamp_at, Walking, Marking}
-use Rattle.chains.proofs.Marks.{below_next, below_last, marking-kept, Chaining, chain_first, chain_turn, Stamping, stamping}
-use Rattle.chains.specs.SideMarks.{SidesMarked, Strange, Told, Third, Passes, Stamped, Right, Keeps, Marked, Settled, MarkedOf}
+use Rattle.chains.proofs.Marks.{below_next, below_last, marking-kept, Chaining, chain_turn, Stamping, stamping}
+use Rattle.chains.specs.SideMarks.{SidesMarked, Strange, Told, Passes, Stamped, Right, Marked, Settled, MarkedOf}
 use Rattle.chains.proofs.SideMarks.{stamped_of, MarkedBelow, marked_all, told_lone, marked-none, marked_turn, keeps-none, keeps-more, settled_more}
 use Rattle.chains.specs.AcrossMarks.{AcrossBelow, across, AcrossOf}
 use Rattle.chains.proofs.AcrossMarks.{across-first, across_turn, stamp-joined}
 use Rattle.chains.specs.LabelMarks.{Labelled}
 use Rattle.chains.proofs.LabelMarks.{Carrying, carry_turn}
 
--- the words that `clear` leaves
+-- the words after the first n are filled with 0
+pub front-zeros : (n : ℕ) (w v : List ℕ) → n ≤ length w → v ≡ replicate (length (take n w)) 0 → v ++ drop n w ≡ replicate n 0 ++ drop n w
+front-zeros n w v l e = ap (λ (x : List ℕ). x ++ drop n w) (e ∙ ap (λ (m : ℕ). replicate m 0) (length-take-le n w l))
+
 pub zero-at : (n j : ℕ) (w t : List ℕ) → w ≡ replicate n 0 ++ t → j < n → at w j ≡ 0
 zero-at n j w t e l = ap (λ (x : List ℕ). at x j) e ∙ at_front (replicate n 0) t n j (length-replicate n 0) l ∙ get_or-replicate n j 0 0 l
-
--- a test as a number
-pub bit_one : (b : Bool) → bool_byte b ≡ one b
-bit_one true = refl
-bit_one false = refl
-
-pub bit_low : (b : Bool) → bool_byte b < 4294967296
-bit_low true = omega arith
-bit_low false = omega arith
 
 -- a link is at most the number of places
 pub from-most : (c : List ℕ) (v i d : ℕ) → from c v i d ≤ i + d
@@ -50,21 +43,6 @@ from-most c v i d = go (from c v i d) refl
     go : (q : ℕ) → from c v i d ≡ q → q ≤ i + d
     go zero e = omega arith
     go (suc k) e = ((from_next c v i d (i + d) refl).names k e).1
-
--- ---- strange
-
-module _ (c w : List ℕ) (stamps s x y k z m : ℕ) (e : z ≡ at c (nx k)) (f : m ≡ at w (stamps + z)) where
-  pub strange_off : (m ≡ s → ⊥) → Strange c w stamps s x y k false
-  strange_off n = record { yea = λ q. absurd (false≢true q); nay = λ q g. absurd (n (f ∙ ap (λ (i : ℕ). at w (stamps + i)) e ∙ g)) }
-
-  pub strange_x : z ≡ x → Strange c w stamps s x y k false
-  strange_x g = record { yea = λ q. absurd (false≢true q); nay = λ q h. inl (sym e ∙ g) }
-
-  pub strange_y : m ≡ s → (z ≡ x → ⊥) → Strange c w stamps s x y k (not (eqb z y))
-  strange_y g n = record {
-    yea = λ q. (ap (λ (i : ℕ). at w (stamps + i)) (sym e) ∙ sym f ∙ g, (λ h. n (e ∙ h)), λ h. eqb-false z y (not-true (eqb z y) q) (e ∙ h));
-    nay = λ q h. inr (sym e ∙ eqb-true z y (not-false (eqb z y) q));
-  }
 
 -- ---- chain_places
 
@@ -89,9 +67,6 @@ module _ (c : List ℕ) (p : ℕ) (w : List ℕ) (chains stamps v : ℕ) (h : Wa
 
   pub walks_state : (q : ℕ) (w' : List ℕ) → Walks c v q w w' stamps → Stamping c p stamps v (spot (length c) q) w w'
   walks_state q w' s = subst (Stamping c p stamps v (spot (length c) q) w) (sym s.is) (stamping c p stamps v (spot (length c) q) w h.lists s.onward.low h.room)
-
-  pub walks_len : (q : ℕ) (w' : List ℕ) → Walks c v q w w' stamps → length w' ≡ length w
-  walks_len q w' s = (walks_state q w' s).len
 
   -- whatever the stamp is, the chain is kept
   pub walks_link : (q k : ℕ) (w' w'' : List ℕ) (x m : ℕ) → q ≡ suc k → x ≡ at c (nx k) → Walks c v q w w' stamps → w'' ≡ set w' (stamps + x) m → (r : ℕ) → r ≡ at w'' (chains + p + k) → r ≡ from c v (suc k) (length c - suc k)

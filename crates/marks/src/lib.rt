@@ -11,7 +11,6 @@ ghost use Rattle.chains.specs.SideMarks.{Told, Strange, Stamped, Marked, MarkedO
 ghost use Rattle.chains.specs.AcrossMarks.{AcrossOf, AcrossBelow};
 ghost use Rattle.chains.specs.LabelMarks.{Labelled, LabelsMarked};
 
-use closing::clear;
 use halfedges::after;
 use words::{ahead, behind, put, word};
 
@@ -21,15 +20,12 @@ fn chain_places(corners: &[u32], points: usize, work: &mut [u32])
     requires corners_in_bounds { points + length corners.now ≤ length work.old }
     ensures { ChainedAt corners.now points 0 work.old work.new }
 {
-    clear(work, points);
-    let mut k = corners.len();
-    while k > 0 {
-        let q = k;
-        k -= 1;
+    work[..points].fill(0);
+    for k in (0..corners.len()).rev() {
         let v = word(corners, k);
         let next = word(work, v);
         put(work, points + k, next);
-        put(work, v, q);
+        put(work, v, k + 1);
     }
 }
 
@@ -42,60 +38,54 @@ pub fn chain_at(corners: &[u32], points: usize, chains: usize, work: &mut [u32])
     chain_places(corners, points, &mut work[chains..])
 }
 
-fn small(l: u8) -> usize
-    ensures { result ≡ l }
-{
-    l as usize
-}
-
-// Marks under 8 * v + l that a triangle with the label l names v.
+// Marks under 8 * v + l that a triangle with the label l names v. (That of `questions` ends at the first opposed label.)
 pub fn mark_labels(corners: &[u32], labels: &[u8], points: usize, work: &mut [u32])
     requires lists { Lists corners.now points }
     requires labelled { Labelled corners.now labels.now }
     requires points_in_bounds { points * 8 ≤ length work.old }
     ensures { LabelsMarked corners.now labels.now points work.old work.new }
 {
-    clear(work, points * 8);
-    let mut k: usize = 0;
-    while k < corners.len() {
+    work[..points * 8].fill(0);
+    for k in 0..corners.len() {
         let v = word(corners, k);
-        let l = small(labels[k / 3]);
+        let l = usize::from(labels[k / 3]);
         put(work, v * 8 + l, 1);
-        k += 1;
     }
 }
 
-// The `count` words from `from` on become 0.
+// The `count` words from `from` on become 0. (Said word by word, as the marks are read; that of `closing` says what the whole list is.)
 pub fn clear_from(from: usize, count: usize, work: &mut [u32])
     requires { from + count ≤ length work.old }
     ensures { Cleared from count work.old work.new }
 {
-    clear(&mut work[from..], count)
+    work[from..from + count].fill(0);
 }
 
-// Stamps each corner that follows v in a triangle with v + 1.
-fn stamp_around(
-    corners: &[u32],
+// How many points there are, and where the chains, the stamps and the marks start in the words.
+#[derive(Clone, Copy, Debug, PartialEq, Eq)]
+struct Areas {
     points: usize,
     chains: usize,
     stamps: usize,
-    v: usize,
-    work: &mut [u32],
-)
-    requires walking { Walking corners.now points work.old chains stamps }
-    requires v_lt_points { v < points }
-    ensures { work.new ≡ walk (stamp_at corners.now stamps v) corners.now v (length corners.now) work.old }
+    marks: usize,
+}
+
+// Stamps each corner that follows v in a triangle with v + 1.
+fn stamp_around(corners: &[u32], areas: Areas, v: usize, work: &mut [u32])
+    requires walking { Walking corners.now areas.points work.old areas.chains areas.stamps }
+    requires v_lt_points { v < areas.points }
+    ensures { work.new ≡ walk (stamp_at corners.now areas.stamps v) corners.now v (length corners.now) work.old }
 {
-    let mut q = word(work, chains + v);
+    let mut q = word(work, areas.chains + v);
     while q > 0 {
         let k = q - 1;
         let x = ahead(corners, k);
-        put(work, stamps + x, v + 1);
-        q = word(work, chains + points + k);
+        put(work, areas.stamps + x, v + 1);
+        q = word(work, areas.chains + areas.points + k);
     }
 }
 
-// Whether the corner that follows the place k is stamped, and neither x nor y.
+// Whether the corner that follows the place k is stamped, and neither x nor y. (The bounds are those of the one place that is read, as `words` asks them.)
 fn strange(
     corners: &[u32],
     stamps: usize,
@@ -110,89 +100,64 @@ fn strange(
     ensures { Strange corners.now work.now stamps stamp x y k result }
 {
     let z = ahead(corners, k);
-    if word(work, stamps + z) != stamp {
-        return false;
-    }
-    if z == x {
-        return false;
-    }
-    z != y
+    word(work, stamps + z) == stamp && z != x && z != y
 }
 
 // Whether each stamped corner that follows b is x or y.
 fn apart(
     corners: &[u32],
-    points: usize,
-    chains: usize,
-    stamps: usize,
+    areas: Areas,
     stamp: usize,
     b: usize,
     x: usize,
     y: usize,
     work: &[u32],
 ) -> bool
-    requires walking { Walking corners.now points work.now chains stamps }
-    requires b_lt_points { b < points }
-    ensures { Told corners.now work.now stamps stamp b x y result }
+    requires walking { Walking corners.now areas.points work.now areas.chains areas.stamps }
+    requires b_lt_points { b < areas.points }
+    ensures { Told corners.now work.now areas.stamps stamp b x y result }
 {
-    let mut q = word(work, chains + b);
+    let mut q = word(work, areas.chains + b);
     while q > 0 {
         let k = q - 1;
-        if strange(corners, stamps, stamp, x, y, k, work) {
+        if strange(corners, areas.stamps, stamp, x, y, k, work) {
             return false;
         }
-        q = word(work, chains + points + k);
+        q = word(work, areas.chains + areas.points + k);
     }
     true
 }
 
 // Where the other end b of the side that starts at the place k of v has no more triangles than v: marks the side, at both of its places, with 1 where its ends have only the opposite corners in common, else with 0.
-fn mark_side(
-    corners: &[u32],
-    points: usize,
-    chains: usize,
-    stamps: usize,
-    marks: usize,
-    v: usize,
-    k: usize,
-    work: &mut [u32],
-)
-    requires marking { Marking corners.now points work.old chains stamps marks }
-    requires stamped { Stamped corners.now points work.old stamps v }
+fn mark_side(corners: &[u32], areas: Areas, v: usize, k: usize, work: &mut [u32])
+    requires marking { Marking corners.now areas.points work.old areas.chains areas.stamps areas.marks }
+    requires stamped { Stamped corners.now areas.points work.old areas.stamps v }
     requires k_in_bounds { (k < length corners.now) × (at corners.now k ≡ v) }
-    ensures { Marked corners.now points marks k work.old work.new }
+    ensures { Marked corners.now areas.points areas.marks k work.old work.new }
 {
     let b = ahead(corners, k);
-    if word(work, points + v) < word(work, points + b) {
+    if word(work, areas.points + v) < word(work, areas.points + b) {
         return;
     }
-    let t = word(work, points * 3 + corners.len() + k);
+    let t = word(work, areas.points * 3 + corners.len() + k);
     let x = behind(corners, k);
     let y = behind(corners, t);
-    let flag = apart(corners, points, chains, stamps, v + 1, b, x, y, work) as usize;
-    put(work, marks + k, flag);
-    put(work, marks + t, flag);
+    let flag = usize::from(apart(corners, areas, v + 1, b, x, y, work));
+    put(work, areas.marks + k, flag);
+    put(work, areas.marks + t, flag);
 }
 
-fn mark_sides_of(
-    corners: &[u32],
-    points: usize,
-    chains: usize,
-    stamps: usize,
-    marks: usize,
-    v: usize,
-    work: &mut [u32],
-)
-    requires marking { Marking corners.now points work.old chains stamps marks }
-    requires stamped { Stamped corners.now points work.old stamps v }
-    requires v_lt_points { v < points }
-    ensures { MarkedOf corners.now points marks v (length corners.now) work.old work.new }
+fn mark_sides_of(corners: &[u32], areas: Areas, v: usize, work: &mut [u32])
+    requires marking { Marking corners.now areas.points work.old areas.chains areas.stamps areas.marks }
+    requires stamped { Stamped corners.now areas.points work.old areas.stamps v }
+    requires v_lt_points { v < areas.points }
+    ensures { MarkedOf corners.now areas.points areas.marks v (length corners.now) work.old work.new }
 {
-    let mut q = word(work, chains + v);
+    let mut q = word(work, areas.chains + v);
     while q > 0 {
         let k = q - 1;
-        mark_side(corners, points, chains, stamps, marks, v, k, work);
-        q = word(work, chains + points + k);
+        mark_side(corners, areas, v, k, work);
+        q = word(work, areas.chains + areas.points + k);
     }
 }
 
@@ -208,42 +173,38 @@ pub fn mark_sides(
     requires { Marking corners.now points work.old chains stamps marks }
     ensures { SidesMarked corners.now stamps marks work.old work.new }
 {
+    let areas = Areas {
+        points,
+        chains,
+        stamps,
+        marks,
+    };
     clear_from(stamps, points, work);
-    let mut v: usize = 0;
-    while v < points {
-        stamp_around(corners, points, chains, stamps, v, work);
-        mark_sides_of(corners, points, chains, stamps, marks, v, work);
-        v += 1;
+    for v in 0..points {
+        stamp_around(corners, areas, v, work);
+        mark_sides_of(corners, areas, v, work);
     }
 }
 
 // Marks each place of v with 1 where v is joined to the corner across the side opposite to it, else with 0.
-fn mark_across_of(
-    corners: &[u32],
-    points: usize,
-    chains: usize,
-    stamps: usize,
-    marks: usize,
-    v: usize,
-    work: &mut [u32],
-)
-    requires marking { Marking corners.now points work.old chains stamps marks }
-    requires stamped { Stamped corners.now points work.old stamps v }
-    requires v_lt_points { v < points }
-    ensures { AcrossOf corners.now points marks v (length corners.now) work.old work.new }
+fn mark_across_of(corners: &[u32], areas: Areas, v: usize, work: &mut [u32])
+    requires marking { Marking corners.now areas.points work.old areas.chains areas.stamps areas.marks }
+    requires stamped { Stamped corners.now areas.points work.old areas.stamps v }
+    requires v_lt_points { v < areas.points }
+    ensures { AcrossOf corners.now areas.points areas.marks v (length corners.now) work.old work.new }
 {
-    let mut q = word(work, chains + v);
+    let mut q = word(work, areas.chains + v);
     while q > 0 {
         let k = q - 1;
-        let t = word(work, points * 3 + corners.len() + after(k));
+        let t = word(work, areas.points * 3 + corners.len() + after(k));
         let d = behind(corners, t);
-        let flag = (word(work, stamps + d) == v + 1) as usize;
-        put(work, marks + k, flag);
-        q = word(work, chains + points + k);
+        let flag = usize::from(word(work, areas.stamps + d) == v + 1);
+        put(work, areas.marks + k, flag);
+        q = word(work, areas.chains + areas.points + k);
     }
 }
 
-// Marks each place so.
+// Marks each place so. The loop is that of `mark_sides` but for its last call: with a closure for that, the invariant would be the closure's, and no shorter.
 pub fn mark_across(
     corners: &[u32],
     points: usize,
@@ -255,11 +216,15 @@ pub fn mark_across(
     requires { Marking corners.now points work.old chains stamps marks }
     ensures { AcrossBelow corners.now points stamps marks points work.old work.new }
 {
+    let areas = Areas {
+        points,
+        chains,
+        stamps,
+        marks,
+    };
     clear_from(stamps, points, work);
-    let mut v: usize = 0;
-    while v < points {
-        stamp_around(corners, points, chains, stamps, v, work);
-        mark_across_of(corners, points, chains, stamps, marks, v, work);
-        v += 1;
+    for v in 0..points {
+        stamp_around(corners, areas, v, work);
+        mark_across_of(corners, areas, v, work);
     }
 }

@@ -10,9 +10,8 @@ use Rattle.surface.specs.Triangle.{triangles}
 use Rattle.surface.specs.Closed.{around}
 use Rattle.halfedges.specs.Place.{at}
 use Rattle.closing.specs.Closing.{Lent}
-use Rattle.checking.proofs.Turns.{one_more}
-use Rattle.questions.specs.declared.Asked.TheVariants.{Passed}
 use Rattle.units.specs.Units.{WholePoint, AllOnUnits, units_at}
+use Rattle.checking.proofs.Turns.{one_more}
 use Rattle.nearest.specs.Nearest.{apart, used?, Best, nobody, found, best, nearest_to, corner_of, distance_of, places, answered}
 use Rattle.nearest.specs.Call.{Askable, nearest_questions}
 use Rattle.nearest.specs.Laws.{Closest, corner_at, distance_at, Answers, NearestLaws}
@@ -20,6 +19,7 @@ use Rattle.nearest.proofs.Best.{Outcome, none, one, outcome}
 use Rattle.nearest.proofs.Use.{used_iff, first-used, on_list}
 use Rattle.nearest.proofs.Places.{at_place, past-places}
 use Rattle.nearest.proofs.Questions.{askable_iff, at_end, at-later, admitted}
+use Rattle.std.specs.Prelude.{Ok}
 
 -- ---- one probe
 
@@ -130,8 +130,8 @@ single_askable points probes words words' a i h w =
     coordinate (suc (suc zero)) l = a.whole_probes (3 * i + 2) (omega arith)
     coordinate (suc (suc (suc j))) l = absurd (omega arith)
 
-alone-passes : (points : List Float) (corners labels work : List ℕ) (probes : List Float) (words words' : ℕ) → nearest_questions points corners labels work probes words ≡ Passed
-    → (i : ℕ) → i < length probes / 3 → 2 ≤ words' → nearest_questions points corners labels work (take 3 (drop (3 * i) probes)) words' ≡ Passed
+alone-passes : (points : List Float) (corners labels work : List ℕ) (probes : List Float) (words words' : ℕ) → nearest_questions points corners labels work probes words ≡ Ok tt
+    → (i : ℕ) → i < length probes / 3 → 2 ≤ words' → nearest_questions points corners labels work (take 3 (drop (3 * i) probes)) words' ≡ Ok tt
 alone-passes points corners labels work probes words words' e i h w =
     let g = admitted points corners labels work probes words e in
     let l = take 3 (drop (3 * i) probes) in

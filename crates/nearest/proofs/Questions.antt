@@ -13,18 +13,18 @@ use Rattle.surface.proofs.Bools.{both}
 use Rattle.surface.proofs.All.{all-at}
 use Rattle.closing.specs.Closing.{Lent}
 use Rattle.closing.proofs.Whole.{lent_again, drop-zeros}
-use Rattle.questions.specs.Questions.{ask, and_then, lent_questions, listed?, needed, cleared, work_after, lent_words}
-use Rattle.questions.specs.Refusal.{refusal_number, asked_number}
+use Rattle.questions.specs.Questions.{ask, and_then, lent_questions, listed?, needed, cleared, work_after, lent_words, Lends}
+use Rattle.questions.specs.Refusal.{refusal_number, asked_number, Asked}
 use Rattle.questions.specs.declared.Refusal.{Refusal}
-use Rattle.questions.specs.declared.Refusal.TheVariants.{Question}
-use Rattle.questions.specs.declared.Asked.{Asked}
-use Rattle.questions.specs.declared.Asked.TheVariants.{Passed, Refused}
+use Rattle.questions.proofs.Telling.{telling}
 use Rattle.questions.proofs.Counted.{Counted, FirstFour, early, infinite, passes, first-four, not_both, words_late}
 use Rattle.units.specs.Units.{all_on_units?}
 use Rattle.units.proofs.Tests.{all-on-units_iff}
 use Rattle.nearest.specs.Nearest.{answered}
 use Rattle.nearest.specs.Call.{Askable, askable?, later_questions, nearest_questions, Replies}
 use Rattle.nearest.specs.Stages.{Asks, AllAnswered}
+use Rattle.questions.specs.declared.Refusal.TheVariants.{NotFinite, CornerMissing, Probes}
+use Rattle.std.specs.Prelude.{Ok, Err}
 
 -- ---- question 42
 
@@ -80,30 +80,34 @@ module _ (points probes : List Float) (words : ℕ) where
 -- ---- questions 5 and 42
 
 module _ (points : List Float) (corners : List ℕ) (probes : List Float) (room : ℕ) where
-  by_tests_later : {a b : Bool} → listed? (length points / 3) corners ≡ a → askable? points probes room ≡ b → later_questions points corners probes room ≡ ask a 5 (ask b 42 Passed)
+  by_tests_later : {a b : Bool} → listed? (length points / 3) corners ≡ a → askable? points probes room ≡ b → later_questions points corners probes room ≡ ask a CornerMissing (ask b Probes (Ok tt))
   unfolding later_questions
-  by_tests_later p q = λ i. ask (p i) 5 (ask (q i) 42 Passed)
+  by_tests_later p q = λ i. ask (p i) CornerMissing (ask (q i) Probes (Ok tt))
 
-  pub at_five : listed? (length points / 3) corners ≡ false → Refused (Question 5) ≡ later_questions points corners probes room
+  pub at_five : listed? (length points / 3) corners ≡ false → Err CornerMissing ≡ later_questions points corners probes room
   at_five a = sym (by_tests_later a refl)
 
-  pub at_last : listed? (length points / 3) corners ≡ true → askable? points probes room ≡ false → Refused (Question 42) ≡ later_questions points corners probes room
+  pub at_last : listed? (length points / 3) corners ≡ true → askable? points probes room ≡ false → Err Probes ≡ later_questions points corners probes room
   at_last a b = sym (by_tests_later a b)
 
-  pub at_end : listed? (length points / 3) corners ≡ true → askable? points probes room ≡ true → Passed ≡ later_questions points corners probes room
+  pub at_end : listed? (length points / 3) corners ≡ true → askable? points probes room ≡ true → Ok tt ≡ later_questions points corners probes room
   at_end a b = sym (by_tests_later a b)
 
   -- they come after question 3, so that the words are cleared where one of them refuses
-  pub later-words : (work : List ℕ) {why : Refusal} → later_questions points corners probes room ≡ Refused why → cleared (needed points corners) work ≡ work_after (refusal_number why) points corners work
+  pub later-words : (work : List ℕ) {why : Refusal} → later_questions points corners probes room ≡ Err why → cleared (needed points corners) work ≡ work_after (refusal_number why) points corners work
   later-words work {why} e = words_late points corners work (refusal_number why) (go (listed? (length points / 3) corners) refl (askable? points probes room) refl)
     where
-      late : (n : ℕ) → Refused why ≡ Refused (Question n) → (leb 1 n && leb n 3) ≡ false → (leb 1 (refusal_number why) && leb (refusal_number why) 3) ≡ false
-      late n f g = ap (λ (a : Asked). leb 1 (asked_number a) && leb (asked_number a) 3) f ∙ g
+      late : (y : Refusal) → ◌≡◌ {A = Asked} (Err why) (Err y) → (leb 1 (refusal_number y) && leb (refusal_number y) 3) ≡ false → (leb 1 (refusal_number why) && leb (refusal_number why) 3) ≡ false
+      late y f g = ap (λ (a : Asked). leb 1 (asked_number a) && leb (asked_number a) 3) f ∙ g
 
       go : (a : Bool) → listed? (length points / 3) corners ≡ a → (b : Bool) → askable? points probes room ≡ b → (leb 1 (refusal_number why) && leb (refusal_number why) 3) ≡ false
-      go false p b q = late 5 (sym e ∙ by_tests_later p q) refl
-      go true p false q = late 42 (sym e ∙ by_tests_later p q) refl
+      go false p b q = late CornerMissing (sym e ∙ by_tests_later p q) refl
+      go true p false q = late Probes (sym e ∙ by_tests_later p q) refl
       go true p true q = absurd (not_both (by_tests_later p q) e)
+
+-- the words after questions 1 to 4, by what they come to
+pub left_by : {points : List Float} {corners labels work work' : List ℕ} {a b : Asked} → Lends points corners labels work work' a → a ≡ b → work' ≡ lent_words b points corners work
+left_by {points = points} {corners = corners} {work = work} l e = l.words ∙ ap (λ (a : Asked). lent_words a points corners work) e
 
 -- ---- all questions
 
@@ -112,28 +116,28 @@ module _ (points : List Float) (corners labels work : List ℕ) (probes : List F
   unfolding nearest_questions
   by-answers q r = λ i. and_then (q i) (r i)
 
-  pub at_first : {why : Refusal} → lent_questions points corners labels work ≡ Refused why → Refused why ≡ nearest_questions points corners labels work probes room
+  pub at_first : {why : Refusal} → lent_questions points corners labels work ≡ Err why → Err why ≡ nearest_questions points corners labels work probes room
   at_first q = sym (by-answers q refl)
 
-  pub at-later : {r : Asked} → lent_questions points corners labels work ≡ Passed → later_questions points corners probes room ≡ r → r ≡ nearest_questions points corners labels work probes room
+  pub at-later : {r : Asked} → lent_questions points corners labels work ≡ Ok tt → later_questions points corners probes room ≡ r → r ≡ nearest_questions points corners labels work probes room
   at-later q r = sym (by-answers q r)
 
   -- what is known where all are passed
   pub record Admitted : Type 0 where
-    pub first : lent_questions points corners labels work ≡ Passed
+    pub first : lent_questions points corners labels work ≡ Ok tt
     pub listed : listed? (length points / 3) corners ≡ true
     pub lent : Lent corners (length points / 3) work
     pub askable : Askable points probes room
 
-  -- a question refuses, by a number that is not 0, or all are passed
+  -- a question refuses, or all are passed
   pub data Ending : Type 0 where
-    stopped : (n : ℕ) → 1 ≤ n → nearest_questions points corners labels work probes room ≡ Refused (Question n) → Ending
-    passed : Admitted → nearest_questions points corners labels work probes room ≡ Passed → Ending
+    stopped : (why : Refusal) → nearest_questions points corners labels work probes room ≡ Err why → Ending
+    passed : Admitted → nearest_questions points corners labels work probes room ≡ Ok tt → Ending
 
   ending : Ending
   ending = go (first-four points corners labels work) (listed? (length points / 3) corners) refl (askable? points probes room) refl
     where
-      known : lent_questions points corners labels work ≡ Passed → Counted points corners labels work → listed? (length points / 3) corners ≡ true → askable? points probes room ≡ true → Admitted
+      known : lent_questions points corners labels work ≡ Ok tt → Counted points corners labels work → listed? (length points / 3) corners ≡ true → askable? points probes room ≡ true → Admitted
       known e c a b = record {
         first = e;
         listed = a;
@@ -148,25 +152,21 @@ module _ (points : List Float) (corners labels work : List ℕ) (probes : List F
       }
 
       go : FirstFour points corners labels work → (a : Bool) → listed? (length points / 3) corners ≡ a → (b : Bool) → askable? points probes room ≡ b → Ending
-      go (early n p q e) a r b s = stopped n p (by-answers e refl)
-      go (infinite c f e) a r b s = stopped 4 (omega arith) (by-answers e refl)
-      go (passes c f e) false r b s = stopped 5 (omega arith) (by-answers e (by_tests_later points corners probes room r s))
-      go (passes c f e) true r false s = stopped 42 (omega arith) (by-answers e (by_tests_later points corners probes room r s))
+      go (early why p q e) a r b s = stopped why (by-answers e refl)
+      go (infinite c f e) a r b s = stopped NotFinite (by-answers e refl)
+      go (passes c f e) false r b s = stopped CornerMissing (by-answers e (by_tests_later points corners probes room r s))
+      go (passes c f e) true r false s = stopped Probes (by-answers e (by_tests_later points corners probes room r s))
       go (passes c f e) true r true s = passed (known e c r s) (by-answers e (by_tests_later points corners probes room r s))
 
-  pub admitted : nearest_questions points corners labels work probes room ≡ Passed → Admitted
+  pub admitted : nearest_questions points corners labels work probes room ≡ Ok tt → Admitted
   admitted e = go ending
     where
       go : Ending → Admitted
-      go (stopped n h f) = absurd (not_both e f)
+      go (stopped why f) = absurd (not_both e f)
       go (passed a f) = a
 
-  pub zero-passed : asked_number (nearest_questions points corners labels work probes room) ≡ 0 → nearest_questions points corners labels work probes room ≡ Passed
-  zero-passed z = go ending
-    where
-      go : Ending → nearest_questions points corners labels work probes room ≡ Passed
-      go (stopped n h f) = let e : n ≡ 0 = sym (ap asked_number f) ∙ z in absurd (omega arith)
-      go (passed a f) = f
+  pub zero-passed : asked_number (nearest_questions points corners labels work probes room) ≡ 0 → nearest_questions points corners labels work probes room ≡ Ok tt
+  zero-passed = telling (nearest_questions points corners labels work probes room)
 
 -- ---- the whole: the answers are wiped first
 
@@ -180,17 +180,17 @@ module _ (points : List Float) (corners labels work : List ℕ) (probes : List F
   words_are : {a : Asked} → asked ≡ a → work' ≡ lent_words a points corners work
   words_are e = h.words ∙ ap (λ (a : Asked). lent_words a points corners work) e
 
-  pub refused : {why : Refusal} → asked ≡ Refused why → Replies points corners labels work work' probes answers wiped (Refused why)
+  pub refused : {why : Refusal} → asked ≡ Err why → Replies points corners labels work work' probes answers wiped (Err why)
   refused e = record { answer = sym e ∙ answer-is; places = w; words = words_are e }
 
-  module _ (e : asked ≡ Passed) where
+  module _ (e : asked ≡ Ok tt) where
     known : Admitted points corners labels work probes (length wiped)
     known = admitted points corners labels work probes (length wiped) (sym h.answer ∙ e)
 
     pub ready : (Lent corners (length points / 3) work') × (Askable points probes (length wiped))
     ready = (lent_again (ap length (words_are e)) known.lent, known.askable)
 
-    pub replied : (work'' answers' : List ℕ) → AllAnswered points corners work' work'' probes wiped answers' → Replies points corners labels work work'' probes answers answers' Passed
+    pub replied : (work'' answers' : List ℕ) → AllAnswered points corners work' work'' probes wiped answers' → Replies points corners labels work work'' probes answers answers' (Ok tt)
     replied work'' answers' m = record {
       answer = sym e ∙ answer-is;
       places =

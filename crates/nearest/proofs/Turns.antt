@@ -1,52 +1,66 @@
--- A corner more: against one probe's best, against each probe's in turn, and from corner to corner. Assumes nothing.
+-- A corner more: against one probe's best, against each probe's in turn, and from corner to corner.
 use Prim.Native.Nat.{ℕ, ◌+◌, ◌/◌, ◌≤◌, ◌<◌}
-use mathlib.Core.Path.{◌≡◌, refl, sym, ap, ◌∙◌, subst, subst₂}
+use mathlib.Core.Path.{◌≡◌, refl, sym, ap, ◌∙◌, subst}
 use mathlib.Core.Logic.{◌⊎◌, inl, inr}
 use mathlib.Core.Bool.{Bool, true, false, not, cond}
 use mathlib.Core.List.{List}
 use native.Mathlib.Nat.{eq-or-lt_of_le}
 use native.Mathlib.Numerals.{add-one}
 use native.Mathlib.Omega.{arith}
-use lib.Dec.{leb, lit<}
+use lib.Dec.{leb, ltb, lit<}
 use borrow.Author.Tests.{leb-true, leb-false, lt-ltb, le-ltb, eq-eqb, ne_eqb}
 use lib.IntN.{pos}
 use lib.ListN.{length, get_or, set, length-set}
 use lib.Seq.{get_or-set_same, get_or-set_other}
-use lib.Ieee.{Float, nan, le}
+use lib.Ieee.{Float, le}
+use Rattle.std.specs.Prelude.{Option, None, Some}
 use Rattle.halfedges.specs.Place.{at}
 use Rattle.rounding.specs.Fraction.{Is}
 use Rattle.rounding.proofs.Compared.{le_numbers}
 use Rattle.units.specs.Units.{units_at}
+use Rattle.nearest.specs.declared.Candidate.{Candidate}
 use Rattle.nearest.specs.Nearest.{apart, Best, nobody, found, closer, best}
-use Rattle.nearest.specs.Stages.{has_head, best_of, far_of, BestKept, Laid, BestsKept, Considered}
-use Rattle.nearest.proofs.Exact.{most_apart}
+use Rattle.nearest.specs.Stages.{has_head, best_of, closer_of, considered, BestKept, Laid, BestsKept}
 
 -- ---- one probe
 
-kept-closer : (b : Best) (corner : ℕ) (e : Float) → BestKept b corner e → (v n : ℕ) (d : Float) → Is d (pos n) 1048576 → n ≤ most_apart → BestKept (closer b v n) (cond (le e d) corner v) (cond (le e d) e d)
-kept-closer b corner e k v n d i most =
-    subst (λ (t : Bool). BestKept (closer b v n) (cond t corner v) (cond t e d)) (sym (le_numbers (lit< tt) k.far i)) (go b k (leb (far_of b) n) refl)
+kept-closer : (b : Best) (o : Option Candidate) → BestKept b o → (v n : ℕ) (d : Float) → Is d (pos n) 1048576 → BestKept (closer b v n) (closer_of o v d)
+kept-closer nobody None k v n d i = record { named = refl; far = i }
+kept-closer nobody (Some c) k v n d i = absurd k
+kept-closer (found w m) None k v n d i = absurd k
+kept-closer (found w m) (Some c) k v n d i =
+    subst (λ (t : Bool). BestKept (cond (ltb n m) (found v n) (found w m)) (cond t (Some c) (Some (record { corner = v; distance = d })))) (sym (le_numbers (lit< tt) k.far i)) (go (leb m n) refl)
   where
-    go : (b : Best) → BestKept b corner e → (t : Bool) → leb (far_of b) n ≡ t → BestKept (closer b v n) (cond t corner v) (cond t e d)
-    go nobody k true p = let h = leb-true 17179869184 n p in absurd (omega arith)
-    go nobody k false p = record { named = refl; far = i }
-    go (found w m) k true p = subst (λ (t : Bool). BestKept (cond t (found v n) (found w m)) corner e) (sym (le-ltb n m (leb-true m n p))) k
-    go (found w m) k false p = subst (λ (t : Bool). BestKept (cond t (found v n) (found w m)) v d) (sym (lt-ltb n m (leb-false m n p))) (record { named = refl; far = i })
+    go : (t : Bool) → leb m n ≡ t → BestKept (cond (ltb n m) (found v n) (found w m)) (cond t (Some c) (Some (record { corner = v; distance = d })))
+    go true p = subst (λ (t : Bool). BestKept (cond t (found v n) (found w m)) (Some c)) (sym (le-ltb n m (leb-true m n p))) k
+    go false p = subst (λ (t : Bool). BestKept (cond t (found v n) (found w m)) (Some (record { corner = v; distance = d }))) (sym (lt-ltb n m (leb-false m n p))) (record { named = refl; far = i })
 
--- ---- a place of a list that is set or not
+-- ---- the place of a probe, and the others
 
-module _ {A : Type 0} (l : List A) (i : ℕ) (x d : A) where
-  set_here : (b : Bool) → i < length l → get_or (cond b l (set l i x)) i d ≡ cond b (get_or l i d) x
-  set_here true h = refl
-  set_here false h = get_or-set_same l i x d h
+module _ (bests : List (Option Candidate)) (i v : ℕ) (d : Float) where
+  here-considered : (o : Option Candidate) → get_or bests i None ≡ o → i < length bests → get_or (considered o v d i bests) i None ≡ closer_of o v d
+  here-considered None e h = get_or-set_same bests i _ None h
+  here-considered (Some c) e h = go (le c.distance d)
+    where
+      go : (t : Bool) → get_or (cond t bests (set bests i (Some (record { corner = v; distance = d })))) i None ≡ cond t (Some c) (Some (record { corner = v; distance = d }))
+      go true = e
+      go false = get_or-set_same bests i _ None h
 
-  set_there : (b : Bool) (j : ℕ) → (j ≡ i → ⊥) → get_or (cond b l (set l i x)) j d ≡ get_or l j d
-  set_there true j n = refl
-  set_there false j n = get_or-set_other l i j x d n
+  there-considered : (o : Option Candidate) (j : ℕ) → (j ≡ i → ⊥) → get_or (considered o v d i bests) j None ≡ get_or bests j None
+  there-considered None j n = get_or-set_other bests i j _ None n
+  there-considered (Some c) j n = go (le c.distance d)
+    where
+      go : (t : Bool) → get_or (cond t bests (set bests i (Some (record { corner = v; distance = d })))) j None ≡ get_or bests j None
+      go true = refl
+      go false = get_or-set_other bests i j _ None n
 
-  set_long : (b : Bool) → length (cond b l (set l i x)) ≡ length l
-  set_long true = refl
-  set_long false = length-set l i x
+  considered-long : (o : Option Candidate) → length (considered o v d i bests) ≡ length bests
+  considered-long None = length-set bests i _
+  considered-long (Some c) = go (le c.distance d)
+    where
+      go : (t : Bool) → length (cond t bests (set bests i (Some (record { corner = v; distance = d })))) ≡ length bests
+      go true = refl
+      go false = length-set bests i _
 
 -- ---- each probe in turn
 
@@ -60,38 +74,31 @@ module _ (points : List Float) (work : List ℕ) (probes : List Float) (v : ℕ)
       ap (best (has_head work) (λ (w : ℕ). apart (units_at points w) (units_at probes i))) (add-one v) ∙ ap (λ (t : Bool). cond t (closer b v (apart (units_at points v) (units_at probes i))) b) e
 
   -- a corner that is not in use
-  pub passed_over : (nearest : List ℕ) (least : List Float) → at work v ≡ 0 → BestsKept points work probes v nearest least → BestsKept points work probes (v + 1) nearest least
-  passed_over nearest least e k i h = subst (λ (b : Best). BestKept b (at nearest i) (get_or least i nan)) (sym (after i (ap not (eq-eqb (at work v) 0 e)))) (k i h)
+  pub passed_over : (bests : List (Option Candidate)) → at work v ≡ 0 → BestsKept points work probes v bests → BestsKept points work probes (v + 1) bests
+  passed_over bests e k i h = subst (λ (b : Best). BestKept b (get_or bests i None)) (sym (after i (ap not (eq-eqb (at work v) 0 e)))) (k i h)
 
   -- the probes below i have met the corner v
-  pub record Comparing (nearest₀ : List ℕ) (least₀ : List Float) (nearest : List ℕ) (least : List Float) (i : ℕ) : Type 0 where
-    pub laid : Laid points work probes nearest₀ least₀
+  pub record Comparing (bests₀ bests : List (Option Candidate)) (i : ℕ) : Type 0 where
+    pub laid : Laid points work probes bests₀
     pub listed : v < length points / 3
     pub head : at work v ≡ 0 → ⊥
-    pub corners-long : length nearest ≡ length nearest₀
-    pub distances-long : length least ≡ length least₀
-    pub met : (j : ℕ) → j < i → j < length probes / 3 → BestKept (best_of points work probes j (v + 1)) (at nearest j) (get_or least j nan)
-    pub unmet : (j : ℕ) → i ≤ j → j < length probes / 3 → BestKept (best_of points work probes j v) (at nearest j) (get_or least j nan)
+    pub long : length bests ≡ length bests₀
+    pub met : (j : ℕ) → j < i → j < length probes / 3 → BestKept (best_of points work probes j (v + 1)) (get_or bests j None)
+    pub unmet : (j : ℕ) → i ≤ j → j < length probes / 3 → BestKept (best_of points work probes j v) (get_or bests j None)
 
-  pub none-met : (nearest : List ℕ) (least : List Float) → Laid points work probes nearest least → v < length points / 3 → (at work v ≡ 0 → ⊥) → BestsKept points work probes v nearest least
-      → Comparing nearest least nearest least 0
-  none-met nearest least g l n k = record { laid = g; listed = l; head = n; corners-long = refl; distances-long = refl; met = λ j h m. absurd (omega arith); unmet = λ j h m. k j m }
+  pub none-met : (bests : List (Option Candidate)) → Laid points work probes bests → v < length points / 3 → (at work v ≡ 0 → ⊥) → BestsKept points work probes v bests → Comparing bests bests 0
+  none-met bests g l n k = record { laid = g; listed = l; head = n; long = refl; met = λ j h m. absurd (omega arith); unmet = λ j h m. k j m }
 
-  module _ {nearest₀ : List ℕ} {least₀ : List Float} {nearest : List ℕ} {least : List Float} {i : ℕ} (c : Comparing nearest₀ least₀ nearest least i) (h : i < length probes / 3) where
-    pub corner-there : i < length nearest
-    corner-there = omega (arith, c.corners-long, c.laid.corners)
+  module _ {bests₀ bests : List (Option Candidate)} {i : ℕ} (c : Comparing bests₀ bests i) (h : i < length probes / 3) where
+    pub place-there : i < length bests
+    place-there = omega (arith, c.long, c.laid.places)
 
-    pub distance-there : i < length least
-    distance-there = omega (arith, c.distances-long, c.laid.distances)
-
-    pub one-met : {nearest' : List ℕ} {least' : List Float} (d : Float) → Is d (pos (apart (units_at points v) (units_at probes i))) 1048576 → apart (units_at points v) (units_at probes i) ≤ most_apart
-        → Considered v d i nearest least nearest' least' → Comparing nearest₀ least₀ nearest' least' (i + 1)
-    one-met {nearest'} {least'} d is most e = record {
+    pub one-met : (d : Float) → Is d (pos (apart (units_at points v) (units_at probes i))) 1048576 → {bests' : List (Option Candidate)} → bests' ≡ considered (get_or bests i None) v d i bests → Comparing bests₀ bests' (i + 1)
+    one-met d is {bests'} e = record {
       laid = c.laid;
       listed = c.listed;
       head = c.head;
-      corners-long = ap length e.corners ∙ set_long nearest i v 0 (le (get_or least i nan) d) ∙ c.corners-long;
-      distances-long = ap length e.distances ∙ set_long least i d nan (le (get_or least i nan) d) ∙ c.distances-long;
+      long = ap length e ∙ considered-long bests i v d (get_or bests i None) ∙ c.long;
       met = λ j l m. go j m (eq-or-lt_of_le (most_i j l));
       unmet = λ j l m. there (best_of points work probes j v) j (λ q. omega arith) (c.unmet j (omega arith) m);
     }
@@ -99,26 +106,24 @@ module _ (points : List Float) (work : List ℕ) (probes : List Float) (v : ℕ)
         most_i : (j : ℕ) → j < i + 1 → j ≤ i
         most_i j l = omega arith
 
-        there : (b : Best) (j : ℕ) → (j ≡ i → ⊥) → BestKept b (at nearest j) (get_or least j nan) → BestKept b (at nearest' j) (get_or least' j nan)
-        there b j n k =
-            subst₂ (λ (x : ℕ) (y : Float). BestKept b x y) (sym (ap (λ (l : List ℕ). at l j) e.corners ∙ set_there nearest i v 0 (le (get_or least i nan) d) j n)) (sym (ap (λ (l : List Float). get_or l j nan) e.distances ∙ set_there least i d nan (le (get_or least i nan) d) j n)) k
+        there : (b : Best) (j : ℕ) → (j ≡ i → ⊥) → BestKept b (get_or bests j None) → BestKept b (get_or bests' j None)
+        there b j n k = subst (BestKept b) (sym (ap (λ (l : List (Option Candidate)). get_or l j None) e ∙ there-considered bests i v d (get_or bests i None) j n)) k
 
-        here : BestKept (best_of points work probes i (v + 1)) (at nearest' i) (get_or least' i nan)
+        here : BestKept (best_of points work probes i (v + 1)) (get_or bests' i None)
         here =
-            subst (λ (b : Best). BestKept b (at nearest' i) (get_or least' i nan)) (sym (after i (ap not (ne_eqb (at work v) 0 c.head))))
-            (subst₂ (λ (x : ℕ) (y : Float). BestKept (closer (best_of points work probes i v) v (apart (units_at points v) (units_at probes i))) x y)
-            (sym (ap (λ (l : List ℕ). at l i) e.corners ∙ set_here nearest i v 0 (le (get_or least i nan) d) corner-there)) (sym (ap (λ (l : List Float). get_or l i nan) e.distances ∙ set_here least i d nan (le (get_or least i nan) d) distance-there))
-            (kept-closer (best_of points work probes i v) (at nearest i) (get_or least i nan) (c.unmet i (omega arith) h) v (apart (units_at points v) (units_at probes i)) d is most))
+            subst (λ (b : Best). BestKept b (get_or bests' i None)) (sym (after i (ap not (ne_eqb (at work v) 0 c.head))))
+            (subst (BestKept (closer (best_of points work probes i v) v (apart (units_at points v) (units_at probes i))))
+            (sym (ap (λ (l : List (Option Candidate)). get_or l i None) e ∙ here-considered bests i v d (get_or bests i None) refl place-there))
+            (kept-closer (best_of points work probes i v) (get_or bests i None) (c.unmet i (omega arith) h) v (apart (units_at points v) (units_at probes i)) d is))
 
-        go : (j : ℕ) → j < length probes / 3 → (j ≡ i) ⊎ (j < i) → BestKept (best_of points work probes j (v + 1)) (at nearest' j) (get_or least' j nan)
-        go j m (inl q) = subst (λ (k : ℕ). BestKept (best_of points work probes k (v + 1)) (at nearest' k) (get_or least' k nan)) (sym q) here
+        go : (j : ℕ) → j < length probes / 3 → (j ≡ i) ⊎ (j < i) → BestKept (best_of points work probes j (v + 1)) (get_or bests' j None)
+        go j m (inl q) = subst (λ (k : ℕ). BestKept (best_of points work probes k (v + 1)) (get_or bests' k None)) (sym q) here
         go j m (inr l) = there (best_of points work probes j (v + 1)) j (λ q. omega arith) (c.met j l m)
 
-  pub all-met : {nearest₀ : List ℕ} {least₀ : List Float} {nearest : List ℕ} {least : List Float} {i : ℕ} → Comparing nearest₀ least₀ nearest least i → length probes / 3 ≤ i → BestsKept points work probes (v + 1) nearest least
+  pub all-met : {bests₀ bests : List (Option Candidate)} {i : ℕ} → Comparing bests₀ bests i → length probes / 3 ≤ i → BestsKept points work probes (v + 1) bests
   all-met c h j m = c.met j (omega arith) m
 
 -- ---- from corner to corner
 
-pub laid_again : {points : List Float} {work : List ℕ} {probes : List Float} {nearest nearest' : List ℕ} {least least' : List Float} → length nearest' ≡ length nearest → length least' ≡ length least
-    → Laid points work probes nearest least → Laid points work probes nearest' least'
-laid_again p q g = record { whole-points = g.whole-points; whole_probes = g.whole_probes; words = g.words; corners = omega (arith, g.corners); distances = omega (arith, g.distances) }
+pub laid_again : {points : List Float} {work : List ℕ} {probes : List Float} {bests bests' : List (Option Candidate)} → length bests' ≡ length bests → Laid points work probes bests → Laid points work probes bests'
+laid_again p g = record { whole-points = g.whole-points; whole_probes = g.whole_probes; words = g.words; places = omega (arith, g.places) }

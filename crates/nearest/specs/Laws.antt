@@ -1,8 +1,7 @@
 -- What holds of the answers (document 02, F-11), in readable form. Statements only; `nearest-laws` of proofs/Laws proves them of `Answers`.
-use Rattle.std.specs.Prelude.{ℕ, ◌+◌, ◌*◌, ◌/◌, ◌≤◌, ◌<◌, ◌≡◌, List, length, get_or, take, drop, Float}
+use Rattle.std.specs.Prelude.{ℕ, ◌+◌, ◌*◌, ◌/◌, ◌≤◌, ◌<◌, ◌≡◌, List, length, get_or, take, drop, Float, Ok}
 use Rattle.surface.specs.Triangle.{triangles}
 use Rattle.surface.specs.Closed.{InUse}
-use Rattle.questions.specs.declared.Asked.TheVariants.{Passed}
 use Rattle.units.specs.Units.{WholePoint, units_at}
 use Rattle.nearest.specs.Nearest.{apart}
 use Rattle.nearest.specs.Call.{nearest_questions, answers_after}
@@ -26,8 +25,8 @@ pub record Answers (points : List Float) (corners : List ℕ) (probes : List Flo
   pub labels : List ℕ
   pub work : List ℕ
   pub answers : List ℕ
-  pub passed : nearest_questions points corners labels work probes (length answers) ≡ Passed
-  pub places : answers' ≡ answers_after Passed points corners probes answers
+  pub passed : nearest_questions points corners labels work probes (length answers) ≡ Ok tt
+  pub places : answers' ≡ answers_after (Ok tt) points corners probes answers
 
 -- the laws of answers, by what they are the answers of
 pub record NearestLaws (Says : List Float → List ℕ → List Float → List ℕ → Type 0) : Type 0 where
@@ -43,7 +42,7 @@ pub record NearestLaws (Says : List Float → List ℕ → List Float → List �
   pub alone : (points : List Float) (corners : List ℕ) (probes : List Float) (answers answer : List ℕ) (i : ℕ) → i < length probes / 3
       → Says points corners probes answers → Says points corners (take 3 (drop (3 * i) probes)) answer → (corner_at answers i ≡ corner_at answer 0) × (distance_at answers i ≡ distance_at answer 0)
   -- and alone it is let in, too
-  pub alone-passes : (points : List Float) (corners labels work : List ℕ) (probes : List Float) (words words' : ℕ) → nearest_questions points corners labels work probes words ≡ Passed
-      → (i : ℕ) → i < length probes / 3 → 2 ≤ words' → nearest_questions points corners labels work (take 3 (drop (3 * i) probes)) words' ≡ Passed
+  pub alone-passes : (points : List Float) (corners labels work : List ℕ) (probes : List Float) (words words' : ℕ) → nearest_questions points corners labels work probes words ≡ Ok tt
+      → (i : ℕ) → i < length probes / 3 → 2 ≤ words' → nearest_questions points corners labels work (take 3 (drop (3 * i) probes)) words' ≡ Ok tt
   -- 0 stands behind the answers
   pub behind : (points : List Float) (corners : List ℕ) (probes : List Float) (answers : List ℕ) → Says points corners probes answers → (j : ℕ) → 2 * (length probes / 3) ≤ j → get_or answers j 0 ≡ 0

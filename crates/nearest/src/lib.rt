@@ -1,26 +1,22 @@
 // The nearest corners in use of many probes, with their squared distances.
 #![tactic(auto)]
 
-ghost use Rattle.std.specs.Prelude.{◌≡◌, ℕ, ◌+◌, ◌*◌, ◌/◌, ◌≤◌, ◌<◌, length, get_or, replicate};
-ghost use Rattle.std.specs.Float.{nan};
+ghost use Rattle.std.specs.Prelude.{◌≡◌, ℕ, ◌+◌, ◌*◌, ◌/◌, ◌≤◌, ◌<◌, length, get_or, [], ◌∷◌, IfSome, None};
 ghost use Rattle.float.specs.Point.{difference, dotted};
 ghost use Rattle.closing.specs.Closing.{Lent};
 ghost use Rattle.nearest.specs.Call.{Askable, askable?, later_questions, Replies};
-ghost use Rattle.nearest.specs.Stages.{Asks, Laid, BestsKept, Considered, OnSquares, shown, FilledIn, AllAnswered};
+ghost use Rattle.nearest.specs.Stages.{Asks, considered, Laid, BestsKept, OnSquares, corner_shown, distance_shown, FilledIn, AllAnswered};
 
 use checking::point;
 use float::Point;
-use questions::{Asked, Refusal};
+use questions::Refusal;
+use surface::Mesh;
 
-// Every word becomes 0.
-fn wipe(list: &mut [u64])
-    ensures { list.new ≡ replicate (length list.old) 0 }
-{
-    let mut i = 0;
-    while i < list.len() {
-        list[i] = 0;
-        i += 1;
-    }
+// The best corner of a probe so far, and its squared distance.
+#[derive(Clone, Copy, Debug, PartialEq)]
+struct Candidate {
+    corner: u64,
+    distance: f64,
 }
 
 // Question 42.
@@ -43,37 +39,29 @@ fn askable(points: &[f64], probes: &[f64], words: usize) -> bool
 }
 
 // Questions 5 and 42.
-fn later(points: &[f64], corners: &[u32], probes: &[f64], words: usize) -> Asked
+fn later(points: &[f64], corners: &[u32], probes: &[f64], words: usize) -> Result<(), Refusal>
     ensures { result ≡ later_questions points.now corners.now probes.now words }
 {
     if !questions::corners_listed(corners, points.len() / 3) {
-        return Asked::Refused(Refusal::Question(5));
+        return Err(Refusal::CornerMissing);
     }
     if !askable(points, probes, words) {
-        return Asked::Refused(Refusal::Question(42));
+        return Err(Refusal::Probes);
     }
-    Asked::Passed
+    Ok(())
 }
 
-// All questions. Where one refuses, the work words are as after its number.
-fn ask(
-    points: &[f64],
-    corners: &[u32],
-    labels: &[u8],
-    work: &mut [u32],
-    probes: &[f64],
-    words: usize,
-) -> Asked
-    ensures { Asks points.now corners.now labels.now work.old work.new probes.now words result }
+// All questions. Where one refuses, the work words are as the refusal says: from 4 on the needed ones are 0.
+fn ask(mesh: &Mesh, work: &mut [u32], probes: &[f64], words: usize) -> Result<(), Refusal>
+    ensures { Asks mesh.now.points.now mesh.now.corners.now mesh.now.labels.now work.old work.new probes.now words result }
 {
-    if let Asked::Refused(why) = questions::lent(points, corners, labels, work) {
-        return Asked::Refused(why);
+    questions::lent(mesh, work)?;
+    // (The words are cleared on this way out alone: what passes goes on with them.)
+    if let Err(why) = later(mesh.points, mesh.corners, probes, words) {
+        closing::clear_needed(mesh.corners, mesh.points.len() / 3, work);
+        return Err(why);
     }
-    if let Asked::Refused(why) = later(points, corners, probes, words) {
-        closing::clear_needed(corners, points.len() / 3, work);
-        return Asked::Refused(why);
-    }
-    Asked::Passed
+    Ok(())
 }
 
 // The squared distance of two points. Each operation is exact.
@@ -84,81 +72,71 @@ fn distance(p: Point, q: Point) -> f64
     apart.dot(apart)
 }
 
-// A corner and its distance, against the best of the probe i so far: only a smaller distance is better.
-fn consider(v: usize, d: f64, i: usize, nearest: &mut [u64], least: &mut [f64])
-    requires { (i < length nearest.old) × (i < length least.old) }
-    ensures { Considered v d i nearest.old least.old nearest.new least.new }
+// The corner v against the best of the probe i so far: only a smaller distance is better.
+fn consider(v: usize, distance: f64, i: usize, bests: &mut [Option<Candidate>])
+    requires { i < length bests.old }
+    ensures { bests.new ≡ considered (get_or bests.old i None) v distance i bests.old }
 {
-    if least[i] <= d {
-        return;
+    if let Some(so_far) = bests[i] {
+        if so_far.distance <= distance {
+            return;
+        }
     }
-    nearest[i] = v as u64;
-    least[i] = d;
+    bests[i] = Some(Candidate {
+        corner: v as u64,
+        distance,
+    });
 }
 
 // The corner v, if it is in use, against the best of every probe so far.
-fn compare(
-    points: &[f64],
-    work: &[u32],
-    v: usize,
-    probes: &[f64],
-    nearest: &mut [u64],
-    least: &mut [f64],
-)
-    requires laid { (Laid points.now work.now probes.now nearest.old least.old) × (v < length points.now / 3) }
-    requires bests_kept { BestsKept points.now work.now probes.now v nearest.old least.old }
-    ensures { BestsKept points.now work.now probes.now (v + 1) nearest.new least.new }
+fn compare(points: &[f64], work: &[u32], v: usize, probes: &[f64], bests: &mut [Option<Candidate>])
+    requires laid { (Laid points.now work.now probes.now bests.old) × (v < length points.now / 3) }
+    requires bests_kept { BestsKept points.now work.now probes.now v bests.old }
+    ensures { BestsKept points.now work.now probes.now (v + 1) bests.new }
 {
     let head = work[v]; // of the chain of its places
     if head == 0 {
         return;
     }
     let p = point(points, v);
-    let mut i = 0;
-    while i < probes.len() / 3 {
-        consider(v, distance(p, point(probes, i)), i, nearest, least);
-        i += 1;
+    for i in 0..probes.len() / 3 {
+        consider(v, distance(p, point(probes, i)), i, bests);
     }
 }
 
 // The best of every probe, by one pass over the corners in rising order.
-fn pass(points: &[f64], work: &[u32], probes: &[f64], nearest: &mut [u64], least: &mut [f64])
-    requires laid { Laid points.now work.now probes.now nearest.old least.old }
-    requires bests_kept { BestsKept points.now work.now probes.now 0 nearest.old least.old }
-    ensures { BestsKept points.now work.now probes.now (length points.now / 3) nearest.new least.new }
+fn pass(points: &[f64], work: &[u32], probes: &[f64], bests: &mut [Option<Candidate>])
+    requires laid { Laid points.now work.now probes.now bests.old }
+    requires bests_kept { BestsKept points.now work.now probes.now 0 bests.old }
+    ensures { BestsKept points.now work.now probes.now (length points.now / 3) bests.new }
 {
-    let mut v = 0;
-    while v < points.len() / 3 {
-        compare(points, work, v, probes, nearest, least);
-        v += 1;
+    for v in 0..points.len() / 3 {
+        compare(points, work, v, probes, bests);
     }
 }
 
-// The distance that is shown beside a corner, as a whole number of (1/1024)^2; beside the mark, 0.
-fn show(corner: u64, d: f64) -> u64
-    requires { OnSquares d }
-    ensures { result ≡ shown corner d }
+// The two words of an answer place, as C reads them: the corner and its distance as a whole number of (1/1024)^2, or the mark and 0.
+fn show(best: Option<Candidate>) -> [u64; 2]
+    requires { IfSome best (λ c. OnSquares c.distance) }
+    ensures { result ≡ corner_shown best ∷ distance_shown best ∷ [] }
 {
-    if corner == 4294967295 {
-        return 0;
+    match best {
+        None => [4294967295, 0],
+        Some(c) => [c.corner, (c.distance * 1048576.0 + 1.0) as u64 - 1],
     }
-    (d * 1048576.0 + 1.0) as u64 - 1
 }
 
-// The answer places of n probes.
-fn fill(n: usize, nearest: &[u64], least: &[f64], answers: &mut [u64])
-    requires n_in_bounds { (n ≤ length nearest.now) × (n ≤ length least.now) × (2 * n ≤ length answers.old) }
-    requires by_index { (i : ℕ) → i < n → OnSquares (get_or least.now i nan) }
-    ensures { FilledIn n nearest.now least.now answers.old answers.new }
+// The answer places of the probes.
+fn fill(bests: &[Option<Candidate>], answers: &mut [u64])
+    requires room { 2 * length bests.now ≤ length answers.old }
+    requires by_index { (i : ℕ) → i < length bests.now → IfSome (get_or bests.now i None) (λ c. OnSquares c.distance) }
+    ensures { FilledIn (length bests.now) bests.now answers.old answers.new }
 {
-    let mut i = 0;
-    while i < n {
-        let corner = nearest[i];
-        let d = show(corner, least[i]);
+    for i in 0..bests.len() {
+        let [corner, distance] = show(bests[i]);
         let at = 2 * i;
         answers[at] = corner;
-        answers[at + 1] = d;
-        i += 1;
+        answers[at + 1] = distance;
     }
 }
 
@@ -168,28 +146,23 @@ fn measure(points: &[f64], corners: &[u32], work: &mut [u32], probes: &[f64], an
     ensures { AllAnswered points.now corners.now work.old work.new probes.now answers.old answers.new }
 {
     closing::prepare(corners, points.len() / 3, work);
-    let mut nearest = [4294967295u64; 64];
-    let mut least = [16384.0f64; 64];
-    pass(points, work, probes, &mut nearest, &mut least);
-    fill(probes.len() / 3, &nearest, &least, answers);
+    let mut bests = [None; 64];
+    pass(points, work, probes, &mut bests);
+    fill(&bests[..probes.len() / 3], answers);
     closing::clear_needed(corners, points.len() / 3, work);
 }
 
 // For each probe, three values of it, the nearest corner in use and its squared distance, two words of the answers: questions 1 to 5, then 42.
 pub fn nearest(
-    points: &[f64],
-    corners: &[u32],
-    labels: &[u8],
+    mesh: &Mesh,
     work: &mut [u32],
     probes: &[f64],
     answers: &mut [u64],
-) -> Asked
-    ensures { Replies points.now corners.now labels.now work.old work.new probes.now answers.old answers.new result }
+) -> Result<(), Refusal>
+    ensures { Replies mesh.now.points.now mesh.now.corners.now mesh.now.labels.now work.old work.new probes.now answers.old answers.new result }
 {
-    wipe(answers);
-    if let Asked::Refused(why) = ask(points, corners, labels, work, probes, answers.len()) {
-        return Asked::Refused(why);
-    }
-    measure(points, corners, work, probes, answers);
-    Asked::Passed
+    answers.fill(0);
+    ask(mesh, work, probes, answers.len())?;
+    measure(mesh.points, mesh.corners, work, probes, answers);
+    Ok(())
 }

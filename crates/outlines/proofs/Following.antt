@@ -13,7 +13,8 @@ use Rattle.halfedges.proofs.Fine.{nx-below, pv-below}
 use Rattle.sides.specs.Side.{Twin, twins-from}
 use Rattle.outlines.specs.Side.{Each}
 use Rattle.outlines.specs.Stages.Trace.{kinds-from, marks-from, kind_of, next_place, up_place, with_mark, put3, with_place, follow, mark_all, note_all, loop_of, Walkable, Followed}
-use Rattle.outlines.proofs.Reading.{from_low, apex_low, next_low}
+use Rattle.outlines.proofs.Reading.{up_first, from_low, apex_low, next_low}
+use Rattle.sides.specs.Order.{Upward}
 
 -- the words below the marks are as they were
 pub record Same (c : List ℕ) (p : ℕ) (w₀ w : List ℕ) : Type 0 where
@@ -148,11 +149,16 @@ follow-low c p w r start (suc n) k l = go (eqb k start) refl (follow-low c p w r
     go true e h = rw (e, follow) tt
     go false e h = rw (e, follow) (l, h)
 
+-- a loop begins with the place that its side runs upward from
+pub begun_at : (c : List ℕ) (p : ℕ) (w : List ℕ) (k r : ℕ) → Upward c k → r ≡ up_place c p w k → r ≡ k
+begun_at c p w k r u e = e ∙ sym (up_first c k (at w (twins-from c p + k)) (at c k) (at c (nx k)) refl refl u.less)
+
 -- the loop of a place: a visit, and then what follows from the same place, which is called j
-pub loop_followed : (c : List ℕ) (p : ℕ) (w₀ w w' l₀ l l' : List ℕ) (k j i filled f total q r : ℕ) → Walkable c p w₀ → k < length c → w ≡ with_mark c p w₀ k → l ≡ with_place c p w₀ l₀ k filled q → j ≡ k → i ≡ next_place c p w j
-    → f ≡ suc filled → Followed c p w w' l l' (follow (next_place c p w) j (total - f) i) f q r → Followed c p w₀ w' l₀ l' (loop_of c p w₀ total filled k) filled q r
+pub loop_followed : (c : List ℕ) (p : ℕ) (w₀ w w' l₀ l l' : List ℕ) (k j i filled f total n q r : ℕ) → n ≡ total → Walkable c p w₀ → k < length c → w ≡ with_mark c p w₀ k → l ≡ with_place c p w₀ l₀ k filled q → j ≡ k → i ≡ next_place c p w j
+    → f ≡ suc filled → Followed c p w w' l l' (follow (next_place c p w) j (n - f) i) f q r → Followed c p w₀ w' l₀ l' (loop_of c p w₀ total filled k) filled q r
 unfolding mark_all note_all
-loop_followed c p w₀ w w' l₀ l l' k j i filled f total q r rd low ew el ej ei ef h =
+loop_followed c p w₀ w w' l₀ l l' k j i filled f total n q r en rd low ew el ej ei ef h' =
+    let h : Followed c p w w' l l' (follow (next_place c p w) j (total - f) i) f q r = subst (λ (m : ℕ). Followed c p w w' l l' (follow (next_place c p w) j (m - f) i) f q r) en h' in
     let s : Same c p w₀ w = subst (Same c p w₀) (sym ew) (same-marked c p w₀ w₀ (same_self c p w₀) k) in
     let e : i ≡ next_place c p w₀ k = ei ∙ ap (next_place c p w) ej ∙ same_next c p w₀ w s rd k low in
     let b : i < length c = subst (λ (m : ℕ). m < length c) (sym e) (next_low c p w₀ k rd low) in

@@ -1,16 +1,17 @@
 -- The words before and after the walk: marks taken away, sides counted, and what stays.
 use Prim.Native.Nat.{ℕ, zero, suc, ◌+◌, ◌*◌, ◌/◌, ◌-◌, ◌<◌, ◌≤◌}
-use mathlib.Core.Path.{◌≡◌, refl, sym, ◌∙◌, ap, ap₂, subst}
-use mathlib.Core.Logic.{◌⊎◌, inl, inr}
+use mathlib.Core.Path.{◌≡◌, refl, sym, ◌∙◌, ap, subst}
 use mathlib.Core.Bool.{Bool, true, false, ◌&&◌, cond}
-use mathlib.Core.List.{List, [], ◌∷◌}
+use mathlib.Core.List.{List, [], ◌∷◌, ◌++◌, append-nil}
 use native.Mathlib.Omega.{arith}
 use lib.Dec.{eqb, ltb}
-use lib.ListN.{length, set, drop, drop_of_length-le}
-use lib.Seq.{get_or-set_same, get_or-set_other}
+use lib.ListN.{length, take, drop, drop_of_length-le}
+use lib.Seq.{get_or-set_other, length-take-le}
 use Rattle.surface.specs.Closed.{one}
+use Rattle.surface.specs.Triangle.{triangles}
+use Rattle.outlines.specs.Crossing.{crossings}
+use Rattle.outlines.specs.Outline.{outlines, place_words}
 use Rattle.halfedges.specs.Place.{at}
-use Rattle.halfedges.proofs.Turns.{same_or}
 use Rattle.sides.specs.Side.{Twin, twins-from, sides-from, sorted}
 use Rattle.sides.specs.Whole.{Listed}
 use Rattle.sides.proofs.Order.{among-at}
@@ -24,22 +25,6 @@ use Rattle.outlines.proofs.Tracing.{same-mark-all, stand, looped, kept, gone}
 use Rattle.outlines.proofs.Stepping.{side_at, Kinds}
 use Rattle.outlines.proofs.Remaining.{open_sides}
 use Rattle.outlines.proofs.Listing.{open_crossings, answered}
-
--- ---- the marks are taken away
-
-pub unmarked-first : (c : List ℕ) (p : ℕ) (w : List ℕ) → Unmarked c p w w 0
-unmarked-first c p w = record { under = λ j l. refl; over = λ j l. refl; blank = λ i l. absurd (omega arith) }
-
-pub unmarked_turn : (c : List ℕ) (p : ℕ) (w₀ w : List ℕ) (marks k k' : ℕ) → Unmarked c p w₀ w k → marks ≡ marks-from c p → k < length c → marks-from c p + length c ≤ length w → k' ≡ suc k → Unmarked c p w₀ (set w (marks + k) 0) k'
-unmarked_turn c p w₀ w marks k k' u em l room ek = record {
-  under = λ j m. get_or-set_other w (marks + k) j 0 0 (λ e. omega arith) ∙ u.under j m;
-  over = λ j m. get_or-set_other w (marks + k) j 0 0 (λ e. omega arith) ∙ u.over j m;
-  blank = λ i m. blank i m (same_or i k);
-}
-  where
-    blank : (i : ℕ) → i < k' → (i ≡ k) ⊎ (i ≡ k → ⊥) → at (set w (marks + k) 0) (marks-from c p + i) ≡ 0
-    blank i m (inl e) = ap₂ (λ (b j : ℕ). at (set w (marks + k) 0) (b + j)) (sym em) e ∙ get_or-set_same w (marks + k) 0 0 (omega arith)
-    blank i m (inr n) = get_or-set_other w (marks + k) (marks-from c p + i) 0 0 (λ e. n (omega arith)) ∙ u.blank i (omega arith)
 
 -- ---- the open sides are counted
 
@@ -173,16 +158,21 @@ done-keeps c p n (k ∷ js) e w l f q r = go (open? c p w k && ltb f n) refl (do
           λ j m. h.1 j m ∙ mark-all-far c p w places r low j m,
         )
 
-pub outlined : (c : List ℕ) (p : ℕ) (w w' l l' : List ℕ) (r total q : ℕ) → SidesPrepared c p w r total → 3 * total ≤ length l → Traced c p total w w' l l' q → Outlined c p w w' l l' q
-outlined c p w w' l l' r total q h room t =
+-- the answer's front is lent for the walk, and comes back
+pub outlined : (c : List ℕ) (p : ℕ) (w w' l f l' : List ℕ) (r total q : ℕ) → SidesPrepared c p w r total → 3 * total ≤ length l → Traced c p (length (take (3 * total) l) / 3) w w' (take (3 * total) l) f q → l' ≡ f ++ drop (3 * total) l → Outlined c p w w' l l' q
+outlined c p w w' l f l' r total q h room t e =
     let a = h.arranged in
-    let o = answered c p w h.closed (above_by c p w) a.ready (kinds_are c p w h.kinds) h.blank total w' l l' q h.total-is room t in
-    let k = done-keeps c p total (sorted c p) (each_at (λ (k : ℕ). k < length c) (sorted c p) (λ i m. (a.upward i (omega (arith, a.count))).low)) w l 0 0 a.ready in
+    let long : length (take (3 * total) l) ≡ 3 * total = length-take-le (3 * total) l room in
+    let n : length (take (3 * total) l) / 3 ≡ total = omega arith in
+    let t' : Traced c p total w w' (take (3 * total) l) f q = subst (λ (m : ℕ). Traced c p m w w' (take (3 * total) l) f q) n t in
+    let o = answered c p w h.closed (above_by c p w) a.ready (kinds_are c p w h.kinds) h.blank total w' (take (3 * total) l) f q h.total-is (omega arith) t' in
+    let k = done-keeps c p total (sorted c p) (each_at (λ (k : ℕ). k < length c) (sorted c p) (λ i m. (a.upward i (omega (arith, a.count))).low)) w (take (3 * total) l) 0 0 a.ready in
     record {
-      list = o.list;
+      list = e ∙ ap (λ (x : List ℕ). x ++ drop (3 * total) l) (o.list ∙ ap (λ (x : List ℕ). place_words (outlines (above_by c p w) (triangles c)) ++ x) (drop_of_length-le (take (3 * total) l) {i = 3 * length (crossings (above_by c p w) (triangles c))} (omega (arith, h.total-is))) ∙ append-nil (place_words (outlines (above_by c p w) (triangles c))))
+          ∙ ap (λ (m : ℕ). place_words (outlines (above_by c p w) (triangles c)) ++ drop (3 * m) l) h.total-is;
       loop-count = o.count;
       kept = record {
-        kinds = λ v m. ap (λ (x : List ℕ). at x (kinds-from c p + v)) t.work ∙ k.0.low (kinds-from c p + v) (omega arith);
-        far = λ j m. ap (λ (x : List ℕ). at x j) t.work ∙ k.1 j m;
+        kinds = λ v m. ap (λ (x : List ℕ). at x (kinds-from c p + v)) t'.work ∙ k.0.low (kinds-from c p + v) (omega arith);
+        far = λ j m. ap (λ (x : List ℕ). at x j) t'.work ∙ k.1 j m;
       };
     }

@@ -62,6 +62,9 @@ module _ (c : List ℕ) (p : ℕ) (w : List ℕ) (k : ℕ) where
   pub up_of : (twins t u : ℕ) → twins ≡ twins-from c p → t ≡ at w (twins + k) → u ≡ upper_of c k t → u ≡ up_place c p w k
   up_of twins t u et er eu = eu ∙ ap (upper_of c k) (word_at et refl er)
 
+  pub upper_low : (twins t u : ℕ) → twins ≡ twins-from c p → t ≡ at w (twins + k) → u ≡ upper_of c k t → Walkable c p w → k < length c → u < length c
+  upper_low twins t u et er eu r l = omega (arith, up-low r l, up_of twins t u et er eu)
+
   pub open_same : (kinds x y from to : ℕ) → kinds ≡ kinds-from c p → x ≡ at c k → y ≡ at c (nx k) → from ≡ at w (kinds + x) → to ≡ at w (kinds + y) → from ≡ to → false ≡ open? c p w k
   open_same kinds x y from to ek ex ey ef et e = rw (eq-eqb (kind_of c p w (at c k)) (kind_of c p w (at c (nx k))) (sym (word_at ek ex ef) ∙ e ∙ word_at ek ey et)) refl
 

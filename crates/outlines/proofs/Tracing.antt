@@ -6,6 +6,7 @@ use mathlib.Core.List.{List, [], ◌∷◌}
 use native.Mathlib.Omega.{arith}
 use native.Mathlib.Numerals.{add-one}
 use lib.Dec.{ltb}
+use mir.Val.{bool_byte}
 use lib.ListN.{length, drop, drop_of_length-le}
 use borrow.Author.Tests.{lt-ltb, le-ltb}
 use Rattle.halfedges.specs.Place.{nx, at}
@@ -24,6 +25,15 @@ pub note-all-long : (c : List ℕ) (p : ℕ) (w l : List ℕ) (f q : ℕ) (ks : 
 unfolding note_all
 note-all-long c p w l f q [] = refl
 note-all-long c p w l f q (k ∷ ks) = note-all-long c p w (with_place c p w l k f q) (suc f) q ks ∙ put3-long l f (at c (up_place c p w k)) (at c (nx (up_place c p w k))) q
+
+-- a test is added as a number
+pub one_more : (b : Bool) (q : ℕ) → q + bool_byte b ≡ cond b (q + 1) q
+one_more true q = refl
+one_more false q = omega arith
+
+pub bit_most : (b : Bool) (n : ℕ) → n ≡ bool_byte b → n ≤ 1
+bit_most true n e = omega arith
+bit_most false n e = omega arith
 
 abbrev pub stand : List ℕ → List ℕ → ℕ → ℕ → Progress
 stand w l f q = record { work = w; list = l; filled = f; loops = q }

@@ -7,55 +7,62 @@
 ghost use Rattle.std.specs.Prelude.{◌≡◌, ◌+◌, ◌*◌, ◌-◌, ◌/◌, ◌%◌, ◌<◌, ◌≤◌, length};
 ghost use Rattle.sides.specs.Side.{twins-from, sides-from, sorted};
 ghost use Rattle.sides.specs.Order.{Upward};
-ghost use Rattle.outlines.specs.Stages.Trace.{kinds-from, marks-from, open_after, open_count, Unmarked, next_place, upper_of, open?, Visited, follow, loop_of, loops_after, Walkable, Followed, SideTraced, Arranged, Traced};
+ghost use Rattle.outlines.specs.Stages.Trace.{kinds-from, marks-from, open_count, Unmarked, next_place, upper_of, open?, Visited, follow, loop_of, Walkable, Followed, SideTraced, Arranged, Traced};
 ghost use Rattle.outlines.specs.Stages.Whole.{Kinded, SidesPrepared, KindsKept, Outlined};
 
 use halfedges::{after, before, wide};
 use sides::list_sides;
 use words::{ahead, behind, put, word};
 
-// Where the twins of the places start in the lent words.
-fn twins_from(corners: &[u32], points: usize) -> usize
-    requires { (length corners.now ≤ 98304) × (points ≤ 32768) }
-    ensures { result ≡ twins-from corners.now points }
-{
-    points + points + points + corners.len()
+// A surface whose corners and points are few enough, and where its areas start in the lent words.
+#[derive(Clone, Copy)]
+struct Surface<'a> {
+    corners: &'a [u32],
+    points: usize,
+    ghost few: { length corners.now ≤ 98304 },
+    ghost low: { points ≤ 32768 },
 }
 
-// Where the sides start there, in rising order, each by its place.
-fn sides_from(corners: &[u32], points: usize) -> usize
-    requires { (length corners.now ≤ 98304) × (points ≤ 32768) }
-    ensures { result ≡ sides-from corners.now points }
-{
-    twins_from(corners, points) + corners.len() + corners.len()
-}
+impl<'a> Surface<'a> {
+    // The twins of the places.
+    fn twins(&self) -> usize
+        ensures { result ≡ twins-from self.now.corners.now self.now.points }
+    {
+        self.points + self.points + self.points + self.corners.len()
+    }
 
-// Where the kinds of the points start.
-fn kinds_from(corners: &[u32], points: usize) -> usize
-    requires { (length corners.now ≤ 98304) × (points ≤ 32768) }
-    ensures { result ≡ kinds-from corners.now points }
-{
-    sides_from(corners, points) + corners.len()
-}
+    // The sides, in rising order, each by its place.
+    fn sides(&self) -> usize
+        ensures { result ≡ sides-from self.now.corners.now self.now.points }
+    {
+        self.twins() + self.corners.len() + self.corners.len()
+    }
 
-// Where the marks of the places start.
-fn marks_from(corners: &[u32], points: usize) -> usize
-    requires { (length corners.now ≤ 98304) × (points ≤ 32768) }
-    ensures { result ≡ marks-from corners.now points }
-{
-    kinds_from(corners, points) + points
+    // The kinds of the points.
+    fn kinds(&self) -> usize
+        ensures { result ≡ kinds-from self.now.corners.now self.now.points }
+    {
+        self.sides() + self.corners.len()
+    }
+
+    // The marks of the places.
+    fn marks(&self) -> usize
+        ensures { result ≡ marks-from self.now.corners.now self.now.points }
+    {
+        self.kinds() + self.points
+    }
 }
 
 // The next place of a loop: of the other crossed side of the triangle of k, in the triangle beyond it.
-fn next_place(corners: &[u32], points: usize, work: &[u32], k: usize) -> usize
-    requires walkable { Walkable corners.now points work.now }
-    requires k_in_bounds { k < length corners.now }
-    ensures { result ≡ next_place corners.now points work.now k }
+fn next_place(surface: &Surface, work: &[u32], k: usize) -> usize
+    requires walkable { Walkable surface.now.corners.now surface.now.points work.now }
+    requires k_in_bounds { k < length surface.now.corners.now }
+    ensures { result ≡ next_place surface.now.corners.now surface.now.points work.now k }
 {
-    let twins = twins_from(corners, points);
-    let kinds = kinds_from(corners, points);
-    let x = wide(corners[k]);
-    let z = behind(corners, k);
+    let twins = surface.twins();
+    let kinds = surface.kinds();
+    let x = wide(surface.corners[k]);
+    let z = behind(surface.corners, k);
     let from = word(work, kinds + x);
     let apex = word(work, kinds + z);
     if apex == from {
@@ -66,7 +73,7 @@ fn next_place(corners: &[u32], points: usize, work: &[u32], k: usize) -> usize
     word(work, twins + j)
 }
 
-// Of the places k and t of a side, the one that runs it from its smaller corner.
+// Of the places k and t of a side, the one that runs it from its smaller corner. (The bounds are those of the one place that is read, as `words` asks them.)
 fn up_place(corners: &[u32], k: usize, t: usize) -> usize
     requires { (length corners.now % 3 ≡ 0) × (length corners.now ≤ 98304) × (k < length corners.now) }
     ensures { result ≡ upper_of corners.now k t }
@@ -79,16 +86,16 @@ fn up_place(corners: &[u32], k: usize, t: usize) -> usize
     t
 }
 
-// Whether the plane crosses the side of k and the place k has no mark.
-fn is_open(corners: &[u32], points: usize, work: &[u32], k: usize) -> bool
-    requires walkable { Walkable corners.now points work.now }
-    requires k_in_bounds { k < length corners.now }
-    ensures { result ≡ open? corners.now points work.now k }
+// Whether the plane crosses the side of k and the place k has no mark. (Two steps, no `&&`: what is not crossed is told apart from what has a mark.)
+fn is_open(surface: &Surface, work: &[u32], k: usize) -> bool
+    requires walkable { Walkable surface.now.corners.now surface.now.points work.now }
+    requires k_in_bounds { k < length surface.now.corners.now }
+    ensures { result ≡ open? surface.now.corners.now surface.now.points work.now k }
 {
-    let kinds = kinds_from(corners, points);
-    let marks = marks_from(corners, points);
-    let x = wide(corners[k]);
-    let y = ahead(corners, k);
+    let kinds = surface.kinds();
+    let marks = surface.marks();
+    let x = wide(surface.corners[k]);
+    let y = ahead(surface.corners, k);
     let from = word(work, kinds + x);
     let to = word(work, kinds + y);
     if from == to {
@@ -99,200 +106,135 @@ fn is_open(corners: &[u32], points: usize, work: &[u32], k: usize) -> bool
 
 // Marks the side of k, and writes its corners and the loop's number at the answer's place `filled`. Returns the side's place that runs it from its smaller corner.
 fn visit(
-    corners: &[u32],
-    points: usize,
+    surface: &Surface,
     work: &mut [u32],
     places: &mut [u32],
     k: usize,
     filled: usize,
-    number: usize,
+    number: u32,
 ) -> usize
-    requires walkable { Walkable corners.now points work.old }
-    requires k_in_bounds { k < length corners.now }
+    requires walkable { Walkable surface.now.corners.now surface.now.points work.old }
+    requires k_in_bounds { k < length surface.now.corners.now }
     requires filled_in_bounds { 3 * filled + 2 < length places.old }
-    requires number_bound { number < 4294967296 }
-    ensures { Visited corners.now points work.old work.new places.old places.new k filled number result }
+    ensures { Visited surface.now.corners.now surface.now.points work.old work.new places.old places.new k filled number result }
 {
-    let twins = twins_from(corners, points);
-    let marks = marks_from(corners, points);
+    let twins = surface.twins();
+    let marks = surface.marks();
     let t = word(work, twins + k);
-    let u = up_place(corners, k, t);
-    let low = wide(corners[u]);
-    let high = ahead(corners, u);
+    let u = up_place(surface.corners, k, t);
+    let low = wide(surface.corners[u]);
+    let high = ahead(surface.corners, u);
     put(work, marks + u, 1);
     put(places, 3 * filled, low);
     put(places, 3 * filled + 1, high);
-    put(places, 3 * filled + 2, number);
+    places[3 * filled + 2] = number;
     u // the upper place
 }
 
-// Visits a loop's places from k on until it is back at its start, or all of the answer's `total` places are filled: `filled` are at the call. Returns how many are filled then.
+// Visits a loop's places from k on until it is back at its start, or all of the answer's places are filled: `filled` are at the call. Returns how many are filled then.
 fn follow_on(
-    corners: &[u32],
-    points: usize,
+    surface: &Surface,
     work: &mut [u32],
     places: &mut [u32],
     start: usize,
     k: usize,
     filled: usize,
-    total: usize,
-    number: usize,
+    number: u32,
 ) -> usize
-    requires walkable { Walkable corners.now points work.old }
-    requires k_in_bounds { k < length corners.now }
-    requires filled_le_total { filled ≤ total }
-    requires total_in_bounds { 3 * total ≤ length places.old }
-    requires number_bound { number < 4294967296 }
-    ensures { Followed corners.now points work.old work.new places.old places.new (follow (next_place corners.now points work.old) start (total - filled) k) filled number result }
+    requires walkable { Walkable surface.now.corners.now surface.now.points work.old }
+    requires k_in_bounds { k < length surface.now.corners.now }
+    requires filled_le_total { filled ≤ length places.old / 3 }
+    ensures { Followed surface.now.corners.now surface.now.points work.old work.new places.old places.new (follow (next_place surface.now.corners.now surface.now.points work.old) start (length places.old / 3 - filled) k) filled number result }
 {
     let mut at = k;
-    let mut f = filled;
-    while f < total {
+    let total = places.len() / 3;
+    for f in filled..total {
         if at == start {
             return f;
         }
-        visit(corners, points, work, places, at, f, number);
-        at = next_place(corners, points, work, at);
-        f += 1;
+        visit(surface, work, places, at, f, number);
+        at = next_place(surface, work, at);
     }
-    f
+    total
 }
 
 // Visits all places of the loop of the side of k, which goes on through the triangle that runs it from its smaller corner: k is that place. Returns how many of the answer's places are filled then.
 fn follow_loop(
-    corners: &[u32],
-    points: usize,
+    surface: &Surface,
     work: &mut [u32],
     places: &mut [u32],
     k: usize,
     filled: usize,
-    total: usize,
-    number: usize,
+    number: u32,
 ) -> usize
-    requires walkable { Walkable corners.now points work.old }
-    requires upward { Upward corners.now k }
-    requires filled_lt_total { filled < total }
-    requires total_in_bounds { 3 * total ≤ length places.old }
-    requires number_bound { number < 4294967296 }
-    ensures { Followed corners.now points work.old work.new places.old places.new (loop_of corners.now points work.old total filled k) filled number result }
+    requires walkable { Walkable surface.now.corners.now surface.now.points work.old }
+    requires upward { Upward surface.now.corners.now k }
+    requires filled_lt_total { filled < length places.old / 3 }
+    ensures { Followed surface.now.corners.now surface.now.points work.old work.new places.old places.new (loop_of surface.now.corners.now surface.now.points work.old (length places.old / 3) filled k) filled number result }
 {
-    let start = visit(corners, points, work, places, k, filled, number);
-    let at = next_place(corners, points, work, start);
-    follow_on(
-        corners,
-        points,
-        work,
-        places,
-        start,
-        at,
-        filled + 1,
-        total,
-        number,
-    )
+    let start = visit(surface, work, places, k, filled, number);
+    let at = next_place(surface, work, start);
+    follow_on(surface, work, places, start, at, filled + 1, number)
 }
 
 // Visits all places of the loop that starts with k, where the side of k is crossed and in no loop yet. Returns how many of the answer's places are filled then.
 fn trace_side(
-    corners: &[u32],
-    points: usize,
+    surface: &Surface,
     work: &mut [u32],
     places: &mut [u32],
     k: usize,
     filled: usize,
-    total: usize,
-    number: usize,
+    number: u32,
 ) -> usize
-    requires walkable { Walkable corners.now points work.old }
-    requires upward { Upward corners.now k }
-    requires total_in_bounds { 3 * total ≤ length places.old }
-    requires number_bound { number < 4294967296 }
-    ensures { SideTraced corners.now points total k work.old work.new places.old places.new filled number result }
+    requires walkable { Walkable surface.now.corners.now surface.now.points work.old }
+    requires upward { Upward surface.now.corners.now k }
+    ensures { SideTraced surface.now.corners.now surface.now.points (length places.old / 3) k work.old work.new places.old places.new filled number result }
 {
-    if !is_open(corners, points, work, k) {
+    if !is_open(surface, work, k) {
         return filled;
     }
-    if filled >= total {
+    if filled >= places.len() / 3 {
         return filled;
     }
-    follow_loop(corners, points, work, places, k, filled, total, number)
+    follow_loop(surface, work, places, k, filled, number)
 }
 
-// All loops: of each of the `count` sides in rising order the loop that it starts, if it is in none before. `total` are crossed. Returns the number of loops.
-fn trace(
-    corners: &[u32],
-    points: usize,
-    work: &mut [u32],
-    places: &mut [u32],
-    count: usize,
-    total: usize,
-) -> usize
-    requires arranged { Arranged corners.now points work.old count }
-    requires total_in_bounds { 3 * total ≤ length places.old }
-    ensures { Traced corners.now points total work.old work.new places.old places.new result }
+// All loops: of each of the `count` sides in rising order the loop that it starts, if it is in none before. Returns the number of loops.
+fn trace(surface: &Surface, work: &mut [u32], places: &mut [u32], count: usize) -> usize
+    requires arranged { Arranged surface.now.corners.now surface.now.points work.old count }
+    ensures { Traced surface.now.corners.now surface.now.points (length places.old / 3) work.old work.new places.old places.new result }
 {
-    let sides = sides_from(corners, points);
-    let mut i: usize = 0;
-    let mut filled: usize = 0;
-    let mut number: usize = 0;
-    while i < count {
+    let sides = surface.sides();
+    let mut filled = 0;
+    let mut number: u32 = 0;
+    for i in 0..count {
         let k = word(work, sides + i);
-        let next = trace_side(corners, points, work, places, k, filled, total, number);
-        number = more_loops(filled, next, number);
+        let next = trace_side(surface, work, places, k, filled, number);
+        number += u32::from(filled < next);
         filled = next;
-        i += 1;
     }
-    number
-}
-
-// The number of loops after a side: one more, where it filled places of the answer.
-fn more_loops(filled: usize, next: usize, number: usize) -> usize
-    requires { number < 4294967296 }
-    ensures { result ≡ loops_after filled next number }
-{
-    if filled < next {
-        return number + 1;
-    }
-    number
+    wide(number)
 }
 
 // Takes the mark from every place.
-fn clear_marks(corners: &[u32], points: usize, work: &mut [u32])
-    requires { (length corners.now ≤ 98304) × (points ≤ 32768) × (marks-from corners.now points + length corners.now ≤ length work.old) }
-    ensures { Unmarked corners.now points work.old work.new (length corners.now) }
+fn clear_marks(surface: &Surface, work: &mut [u32])
+    requires { marks-from surface.now.corners.now surface.now.points + length surface.now.corners.now ≤ length work.old }
+    ensures { Unmarked surface.now.corners.now surface.now.points work.old work.new (length surface.now.corners.now) }
 {
-    let marks = marks_from(corners, points);
-    let mut k: usize = 0;
-    while k < corners.len() {
-        work[marks + k] = 0;
-        k += 1;
-    }
-}
-
-// n, and one more where the side of k is crossed and has no mark.
-fn count_open(corners: &[u32], points: usize, work: &[u32], k: usize, n: usize) -> usize
-    requires walkable { Walkable corners.now points work.now }
-    requires k_in_bounds { k < length corners.now }
-    requires n_bound { n < 4294967296 }
-    ensures { result ≡ open_after corners.now points work.now k n }
-{
-    if is_open(corners, points, work, k) {
-        return n + 1;
-    }
-    n
+    let marks = surface.marks();
+    work[marks..marks + surface.corners.len()].fill(0);
 }
 
 // How many of the `count` sides are crossed and have no mark.
-fn count_sides(corners: &[u32], points: usize, work: &[u32], count: usize) -> usize
-    requires { Arranged corners.now points work.now count }
-    ensures { result ≡ open_count corners.now points work.now (sorted corners.now points) }
+fn count_sides(surface: &Surface, work: &[u32], count: usize) -> usize
+    requires { Arranged surface.now.corners.now surface.now.points work.now count }
+    ensures { result ≡ open_count surface.now.corners.now surface.now.points work.now (sorted surface.now.corners.now surface.now.points) }
 {
-    let sides = sides_from(corners, points);
-    let mut i: usize = 0;
-    let mut n: usize = 0;
-    while i < count {
+    let sides = surface.sides();
+    let mut n = 0;
+    for i in 0..count {
         let k = word(work, sides + i);
-        n = count_open(corners, points, work, k, n);
-        i += 1;
+        n += usize::from(is_open(surface, work, k));
     }
     n
 }
@@ -302,9 +244,10 @@ pub fn crossed_sides(corners: &[u32], points: usize, work: &mut [u32]) -> usize
     requires { Kinded corners.now points work.old }
     ensures { SidesPrepared corners.now points work.new (length corners.now / 2) result × KindsKept corners.now points work.old work.new }
 {
+    let surface = Surface { corners, points };
     let count = list_sides(corners, points, work);
-    clear_marks(corners, points, work);
-    count_sides(corners, points, work, count)
+    clear_marks(&surface, work);
+    count_sides(&surface, work, count)
 }
 
 // Writes the outlines, loop by loop, to the front of a list with room for `total` places, as many as sides are crossed. Returns the number of loops.
@@ -319,6 +262,7 @@ pub fn outline(
     requires total_in_bounds { 3 * total ≤ length places.old }
     ensures { Outlined corners.now points work.old work.new places.old places.new result }
 {
+    let surface = Surface { corners, points };
     let count = corners.len() / 2;
-    trace(corners, points, work, places, count, total)
+    trace(&surface, work, &mut places[..3 * total], count)
 }

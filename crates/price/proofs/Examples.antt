@@ -1,4 +1,5 @@
 -- Prices by a sheet of two steps, 500 cents a unit cube up to 10 and 300 above, and the answer for a corner of the unit cube. By computation.
+use Rattle.std.specs.Prelude.{Ok}
 use Prim.Native.Nat.{ℕ, ◌+◌, ◌*◌, ◌^◌}
 use mathlib.Core.Path.{◌≡◌, refl}
 use mathlib.Core.Bool.{true}
@@ -12,7 +13,6 @@ use Rattle.volume.proofs.Examples.{points, corners, cube-corner}
 use Rattle.price.specs.Price.{unit_cube, sum_of_steps, cents}
 use Rattle.price.specs.Tariff.{rises, rising?, tariff?}
 use Rattle.price.specs.Quote.{quoted}
-use Rattle.price.specs.declared.Quote.TheVariants.{Price}
 use Rattle.price.proofs.Answers.{by_question}
 
 abbrev uppers : List ℕ
@@ -51,6 +51,6 @@ is-tariff : tariff? uppers prices ≡ true
 unfolding every rises rising? tariff?
 is-tariff = refl
 
-pub cube-corner_price : quoted points corners cube-corner.labels cube-corner.work uppers prices ≡ Price 500
+pub cube-corner_price : quoted points corners cube-corner.labels cube-corner.work uppers prices ≡ Ok 500
 unfolding sum_of_steps six triangles
-cube-corner_price = by_question points corners cube-corner.labels cube-corner.work uppers prices _ _ cube-corner.accepted ((all-on-units_iff points).1 cube-corner.units) is-tariff
+cube-corner_price = by_question points corners cube-corner.labels cube-corner.work uppers prices _ cube-corner.accepted ((all-on-units_iff points).1 cube-corner.units) is-tariff

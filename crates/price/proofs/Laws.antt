@@ -62,7 +62,7 @@ module _ (Priced : List Float → (corners uppers prices : List ℕ) → ℕ →
     is-exact = (has_price points corners call.labels call.work us ps price call.quote).1
 
     is_balanced : Balanced (triangles corners)
-    is_balanced = balanced points corners call.labels call.work case.quality case.volume case.accepted
+    is_balanced = balanced points corners call.labels call.work case.measures.quality case.measures.volume case.accepted
 
     any_origin : (o : WholePoint) → price ≡ cents (six_of points corners o) us ps
     any_origin o =
@@ -72,7 +72,7 @@ module _ (Priced : List Float → (corners uppers prices : List ℕ) → ℕ →
     fits : price ≤ 858993459200000
     fits =
         let v = amount (six_of points corners (units_at points 0)) in
-        let few = few-started points corners (measurable points corners call.labels call.work case.quality case.volume case.accepted case.units) in
+        let few = few-started points corners (measurable points corners call.labels call.work case.measures.quality case.measures.volume case.accepted case.units) in
         le_trans (le_of_eq (is-exact ∙ in_cubes v 0 us ps)) (most_paid (started v) us ps few case.tariff)
 
   any_listing : {points points' : List Float} {corners corners' us ps : List ℕ} {price price' : ℕ} → Priced points corners us ps price → Priced points' corners' us ps price' → ListedAnew points corners points' corners' → price ≡ price'

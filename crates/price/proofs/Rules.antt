@@ -1,17 +1,17 @@
 -- The rules of a price sheet: the test decides them, and the turns of the loops that test upper volumes and prices. Assumes nothing.
 use Prim.Native.Nat.{ℕ, zero, suc, ◌+◌, ◌-◌, ◌≤◌, ◌<◌}
-use mathlib.Core.Path.{◌≡◌, refl, sym, ap, ◌∙◌, subst}
+use mathlib.Core.Path.{◌≡◌, refl, sym, ◌∙◌, subst}
 use mathlib.Core.Logic.{◌↔◌}
-use mathlib.Core.Bool.{Bool, true, false, ◌&&◌}
+use mathlib.Core.Bool.{Bool, true, false, ◌&&◌, false≢true}
 use mathlib.Core.List.{List, [], ◌∷◌}
 use native.Mathlib.Numerals.{add-one}
 use native.Mathlib.Omega.{arith}
 use lib.Dec.{eqb, leb, ltb}
-use lib.ListN.{length, get_or, drop, drop_of_length-le}
-use lib.Seq.{drop-cons}
-use borrow.Author.Tests.{eqb-true, leb-true, ltb-true, eq-eqb, ne_eqb, le-leb, lt-leb, lt-ltb, le-ltb}
+use lib.ListN.{length, get_or}
+use borrow.Author.Tests.{eqb-true, leb-true, ltb-true, eq-eqb, ne_eqb, le-leb, lt-leb, lt-ltb}
+use Rattle.std.specs.List.{IsAllAdjacentAnswer}
 use Rattle.surface.proofs.Bools.{both, join}
-use Rattle.surface.proofs.All.{all-at, at_all, all-on, all_out, all_done}
+use Rattle.surface.proofs.All.{all-at, at_all}
 use Rattle.price.specs.Tariff.{rises, rising?, capped?, tariff?, Tariff}
 
 -- ---- rising, place by place
@@ -102,42 +102,12 @@ module _ (us ps : List ℕ) where
         (at_all cap? 0 ps (λ k i. le-leb (get_or ps k 0) 100000 (h.capped k i))),
   )
 
--- ---- the loop that tests upper volumes: `last` is the value before the place k
+-- ---- what the code asks of neighbours, and of each price
 
-pub rising_none : (us : List ℕ) → length us ≡ 0 → rising? us ≡ true
-unfolding rising?
-rising_none [] e = refl
-rising_none (u ∷ us) e = absurd (omega arith)
-
-module _ (us : List ℕ) where
-  pub rising-start : 0 < length us → rising? us ≡ rises (get_or us 0 0) (drop 1 us)
-  unfolding rising?
-  rising-start h = ap rising? (drop-cons us 0 0 h)
-
-  module _ (last k : ℕ) (h : k < length us) where
-    turn : rises last (drop k us) ≡ (ltb last (get_or us k 0) && rises (get_or us k 0) (drop (k + 1) us))
-    unfolding rises
-    turn = rw (add-one, drop-cons us k 0)
-
-    pub rising-on : last < get_or us k 0 → rises last (drop k us) ≡ rises (get_or us k 0) (drop (k + 1) us)
-    rising-on l = turn ∙ ap (λ (b : Bool). b && rises (get_or us k 0) (drop (k + 1) us)) (lt-ltb last (get_or us k 0) l)
-
-    pub rising_out : get_or us k 0 ≤ last → rises last (drop k us) ≡ false
-    rising_out l = turn ∙ ap (λ (b : Bool). b && rises (get_or us k 0) (drop (k + 1) us)) (le-ltb last (get_or us k 0) l)
-
-  pub rising-done : (last k : ℕ) → length us ≤ k → rises last (drop k us) ≡ true
-  unfolding rises
-  rising-done last k h = ap (rises last) (drop_of_length-le us h)
-
--- ---- the loop that tests the prices
-
-module _ (ps : List ℕ) where
-  module _ (k : ℕ) (h : k < length ps) where
-    pub capped-on : get_or ps k 0 ≤ 100000 → capped? (drop k ps) ≡ capped? (drop (k + 1) ps)
-    capped-on l = all-on cap? 0 ps k h (le-leb (get_or ps k 0) 100000 l)
-
-    pub capped_out : 100000 < get_or ps k 0 → capped? (drop k ps) ≡ false
-    capped_out l = all_out cap? 0 ps k h (lt-leb (get_or ps k 0) 100000 l)
-
-  pub capped-done : (k : ℕ) → length ps ≤ k → capped? (drop k ps) ≡ true
-  capped-done = all_done cap? ps
+pub rising-all : (us : List ℕ) (r : Bool) → IsAllAdjacentAnswer (λ x y b. b ≡ ltb x y) us r → r ≡ rising? us
+rising-all us true h = sym (at-rising us (λ k i. ltb-true _ _ (sym (h k 0 i))))
+rising-all us false (k, i, h) = go (rising? us) refl
+  where
+    go : (b : Bool) → rising? us ≡ b → false ≡ rising? us
+    go true e = absurd (false≢true (h 0 ∙ lt-ltb _ _ (rising-at us e k i)))
+    go false e = sym e

@@ -1,6 +1,6 @@
 -- The loop over the steps: one lemma for each turn, over plain lists. Assumes nothing.
 use Prim.Native.Nat.{ℕ, ◌+◌, ◌-◌, ◌*◌, ◌≤◌, ◌<◌, min}
-use mathlib.Core.Path.{◌≡◌, sym, ap, ◌∙◌}
+use mathlib.Core.Path.{◌≡◌, sym, ap, ◌∙◌, subst}
 use mathlib.Core.List.{List}
 use native.Mathlib.Nat.{mul-le-mul, add_assoc}
 use native.Mathlib.Numerals.{add-one}
@@ -34,6 +34,9 @@ module _ (n : ℕ) (us ps : List ℕ) where
 
   pub nothing_yet : Walking 0 0 0
   nothing_yet = record { bounded = omega arith; inside = omega arith; next = λ l. omega arith; total = omega arith }
+
+  pub all-walked : {sum lower k : ℕ} → Walking sum lower k → length us ≤ k → Walking sum lower (length us)
+  all-walked {sum} {lower} {k} w h = let e : k ≡ length us = omega (arith, w.bounded) in subst (Walking sum lower) e w
 
   module _ (s : Tariff us ps) (sum lower k : ℕ) (w : Walking sum lower k) where
     pub cap : get_or ps k 0 ≤ 100000

@@ -1,10 +1,9 @@
 -- What holds of the powder tariff (document 02, F-14). Statements only; `price_laws` and `quote-laws` of proofs/Laws prove them.
-use Rattle.std.specs.Prelude.{ℕ, ◌*◌, ◌≤◌, ◌≡◌, List, [], ◌∷◌, ℤ, pos, ◌≤ℤ◌, Float}
+use Rattle.std.specs.Prelude.{ℕ, ◌*◌, ◌≤◌, ◌≡◌, List, [], ◌∷◌, ℤ, pos, ◌≤ℤ◌, Float, Ok}
 use Rattle.units.specs.Units.{WholePoint}
 use Rattle.volume.specs.Volume.{ListedAnew, six_of}
 use Rattle.price.specs.Price.{started, amount, cents}
 use Rattle.price.specs.Quote.{quoted}
-use Rattle.price.specs.declared.Quote.TheVariants.{Price}
 
 -- ---- the price of a volume
 
@@ -23,7 +22,7 @@ pub record PriceLaws : Type 0 where
 pub record Costs (points : List Float) (corners uppers prices : List ℕ) (price : ℕ) : Type 0 where
   pub labels : List ℕ
   pub work : List ℕ
-  pub quote : quoted points corners labels work uppers prices ≡ Price price
+  pub quote : quoted points corners labels work uppers prices ≡ Ok price
 
 -- What holds wherever a price is given: of `Costs`, and so of every call of `lanovishel_price` that answers 0 (`lanovishel/specs/Price`).
 pub record QuoteLaws (Priced : List Float → (corners uppers prices : List ℕ) → ℕ → Type 0) : Type 0 where

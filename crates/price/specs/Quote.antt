@@ -1,33 +1,35 @@
 -- The answer of every call (document 02, F-14): checking's questions, then 47 for coordinates that are not whole units in range, or for a price sheet that breaks the rules; else the price. Definitions only.
-use Rattle.std.specs.Prelude.{ℕ, ◌≡◌, ◌&&◌, cond, List, [], ◌∷◌, Float}
+use Rattle.std.specs.Prelude.{ℕ, ◌≡◌, ◌&&◌, cond, List, [], ◌∷◌, Float, Ok, Err, Result}
 use Rattle.surface.specs.Check.{every}
 use Rattle.questions.specs.Questions.{work_after}
 use Rattle.questions.specs.Refusal.{refusal_number, refusal_place}
-use Rattle.questions.specs.declared.Refusal.TheVariants.{Question}
+use Rattle.questions.specs.declared.Refusal.TheVariants as refusal
+use Rattle.questions.specs.declared.Refusal.{Refusal}
 use Rattle.checking.specs.Validate.{validated}
-use Rattle.checking.specs.declared.Verdict.{Verdict}
-use Rattle.checking.specs.declared.Verdict.TheVariants as verdict
 use Rattle.units.specs.Units.{all_on_units?, units_at}
 use Rattle.volume.specs.Volume.{six_of}
 use Rattle.price.specs.Price.{sum_of_steps, cents}
 use Rattle.price.specs.Tariff.{tariff?}
-use Rattle.price.specs.declared.Quote.{Quote}
-use Rattle.price.specs.declared.Quote.TheVariants.{Price, Refused}
+use Rattle.checking.specs.Verdict.{Verdict}
+
+-- the price in cents, or why there is none
+abbrev pub Quote : Type 0
+Quote = Result ℕ Refusal
 
 -- 0 where there is a price, else the number of the refusal
 abbrev pub number_of : Quote → ℕ
-number_of (Price cents) = 0
-number_of (Refused why) = refusal_number why
+number_of (Ok cents) = 0
+number_of (Err why) = refusal_number why
 
 -- the price, and 0 where there is none
 abbrev pub cents_of : Quote → ℕ
-cents_of (Price cents) = cents
-cents_of (Refused why) = 0
+cents_of (Ok cents) = cents
+cents_of (Err why) = 0
 
 -- the place of the refusal, 0 0 but for a finding
 abbrev pub place_of : Quote → List ℕ
-place_of (Price cents) = 0 ∷ 0 ∷ []
-place_of (Refused why) = refusal_place why
+place_of (Ok cents) = 0 ∷ 0 ∷ []
+place_of (Err why) = refusal_place why
 
 -- the price of the exact volume, which is measured from point 0
 abbrev pub surface_cents : List Float → (corners uppers prices : List ℕ) → ℕ
@@ -36,9 +38,9 @@ surface_cents points corners uppers prices = cents (six_of points corners (units
 -- question 47, where checking accepts
 unfoldable pub after_checking : List Float → (corners uppers prices : List ℕ) → Verdict → Quote
 unfolding every tariff? sum_of_steps
-after_checking points corners uppers prices (verdict.Refused why) = Refused why
-after_checking points corners uppers prices (verdict.Accepted quality volume) =
-    cond (all_on_units? points && tariff? uppers prices) (Price (surface_cents points corners uppers prices)) (Refused (Question 47))
+after_checking points corners uppers prices (Err why) = Err why
+after_checking points corners uppers prices (Ok m) =
+    cond (all_on_units? points && tariff? uppers prices) (Ok (surface_cents points corners uppers prices)) (Err refusal.Tariff)
 
 unfoldable pub quoted : List Float → (corners labels work uppers prices : List ℕ) → Quote
 unfolding validated after_checking

@@ -32,33 +32,30 @@ module _ (v k : ℕ) where
 
 -- ---- in a row
 
--- the first i digits are written
-pub record Row (v i : ℕ) (l l' : List ℕ) (at next : ℕ) : Type 0 where
+-- the last k digits are left to be written
+pub record Row (v k : ℕ) (l l' : List ℕ) (at next : ℕ) : Type 0 where
   pub front : List ℕ
-  pub whole : front ++ hexadecimal (16 - i) v ≡ hexadecimal 16 v
-  pub few : i ≤ 16
-  pub put : Put front i l l' at next
+  pub whole : front ++ hexadecimal k v ≡ hexadecimal 16 v
+  pub few : k ≤ 16
+  pub put : Put front (16 - k) l l' at next
 
-pub row-start : (v : ℕ) (l : List ℕ) (at : ℕ) → Row v 0 l l at at
+pub row-start : (v : ℕ) (l : List ℕ) (at : ℕ) → Row v 16 l l at at
 row-start v l at = record { front = []; whole = refl; few = omega arith; put = put-nothing l at }
 
-pub row_more : {v b i : ℕ} {l l₁ l₂ : List ℕ} {at next next' : ℕ} (k : ℕ) → i < 16 → k ≡ 15 - i → b ≡ hex_digit (v / 16 ^ k % 16) → Row v i l l₁ at next → Put (b ∷ []) 1 l₁ l₂ next next' → Row v (i + 1) l l₂ at next'
-row_more {v} {b} {i} k h e d r p =
-    let now : 16 - i ≡ suc k = omega arith in
-    let then : 16 - (i + 1) ≡ k = omega arith in
+pub row_more : {v b k : ℕ} {l l₁ l₂ : List ℕ} {at next next' : ℕ} → 0 < k → b ≡ hex_digit (v / 16 ^ (k - 1) % 16) → Row v k l l₁ at next → Put (b ∷ []) 1 l₁ l₂ next next' → Row v (k - 1) l l₂ at next'
+row_more {v} {b} {k} h d r p =
+    let now : k ≡ suc (k - 1) = omega arith in
     record {
       front = r.front ++ (b ∷ []);
       whole =
-          append_assoc r.front (b ∷ []) (hexadecimal (16 - (i + 1)) v)
-          ∙ ap (λ (m : ℕ). r.front ++ (b ∷ hexadecimal m v)) then
-          ∙ ap (λ (c : ℕ). r.front ++ (c ∷ hexadecimal k v)) d
+          append_assoc r.front (b ∷ []) (hexadecimal (k - 1) v)
+          ∙ ap (λ (c : ℕ). r.front ++ (c ∷ hexadecimal (k - 1) v)) d
           ∙ ap (λ (m : ℕ). r.front ++ hexadecimal m v) (sym now)
           ∙ r.whole;
-      few = omega arith;
-      put = both r.put p;
+      few = omega (arith, r.few);
+      put = said_as (r.front ++ (b ∷ [])) (16 - (k - 1)) refl (omega (arith, r.few)) (both r.put p);
     }
 
-pub row_end : {v : ℕ} {l l' : List ℕ} {at next : ℕ} (i : ℕ) → 16 ≤ i → Row v i l l' at next → Put (hexadecimal 16 v) 16 l l' at next
-row_end {v} i h r =
-    let none : 16 - i ≡ 0 = omega arith in
-    said_as (hexadecimal 16 v) 16 (sym (append-nil r.front) ∙ ap (λ (m : ℕ). r.front ++ hexadecimal m v) (sym none) ∙ r.whole) r.few r.put
+pub row_end : {v : ℕ} {l l' : List ℕ} {at next : ℕ} (k : ℕ) → k ≡ 0 → Row v k l l' at next → Put (hexadecimal 16 v) 16 l l' at next
+row_end {v} k none r =
+    said_as (hexadecimal 16 v) 16 (sym (append-nil r.front) ∙ ap (λ (m : ℕ). r.front ++ hexadecimal m v) (sym none) ∙ r.whole) (omega arith) r.put

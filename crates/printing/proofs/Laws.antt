@@ -9,8 +9,7 @@ use lib.ListN.{length, take, replicate, length-append, length-replicate}
 use lib.Seq.{take_all, take_at, length-take-le}
 use lib.Ieee.{Float, is_nan}
 use lib.Ieee.Bits.{is_false}
-use Rattle.checking.specs.Verdict.{number_of, quality_of, volume_of}
-use Rattle.checking.specs.declared.Verdict.TheVariants.{Accepted}
+use Rattle.checking.specs.Verdict.{accepted, number_of, quality_of, volume_of}
 use Rattle.sheet.specs.Text.{decimal, line}
 use Rattle.sheet.specs.Edition.{edition, IsEdition}
 use Rattle.sheet.specs.Sheet.{Sheet}
@@ -23,7 +22,7 @@ use Rattle.sheet.proofs.Contents.{contents-laws, longest_text}
 use Rattle.sheet.proofs.Conversion.{conversion-keeps}
 use Rattle.printing.specs.Printed.{float_digits, printed_lines, printed_verdict, verdict_of, verdict_on, printed_text, onto, Prints}
 use Rattle.printing.specs.Laws.{PrintingLaws}
-use Rattle.printing.proofs.Verdicts.{Values, enough, text-values, text-few}
+use Rattle.printing.proofs.Verdicts.{Values, enough, text-values, few}
 
 -- ---- its length
 
@@ -34,7 +33,7 @@ lines-short number quality volume h =
 
 short : (input : List ℕ) → length (printed_text input) ≤ 60
 unfolding printed_text
-short input = let v = verdict_on (contents input) in lines-short (number_of v) (quality_of v) (volume_of v) (text-few (contents input))
+short input = let v = verdict_on (contents input) in lines-short (number_of v) (quality_of v) (volume_of v) (few v)
 
 whole : (input : List ℕ) (long : ℕ) → 60 ≤ long → onto long (printed_text input) ≡ printed_text input ++ replicate (long - length (printed_text input)) 0
 whole input long h =
@@ -87,7 +86,7 @@ module _ (input input' : List ℕ) (n n' : ℕ) (s s' : Sheet) (a : Says input n
 
 -- ---- no NaN
 
-numbers : (c : Contents) (q v : Float) → verdict_on c ≡ Accepted q v → (is_nan q ≡ false) × (is_nan v ≡ false)
+numbers : (c : Contents) (q v : Float) → verdict_on c ≡ accepted q v → (is_nan q ≡ false) × (is_nan v ≡ false)
 numbers c q v e = let w = subst Values e (text-values c) in (is_false (is_nan q) w.0, is_false (is_nan v) w.1)
 
 pub printing_laws : PrintingLaws

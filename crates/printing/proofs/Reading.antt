@@ -8,17 +8,19 @@ use lib.ListN.{length, take, length-append}
 use lib.Seq.{take_at}
 use lib.Ieee.{Float}
 use Rattle.questions.specs.Questions.{needed}
-use Rattle.questions.specs.declared.Refusal.TheVariants.{Question}
+use Rattle.std.specs.Prelude.{Result, Ok, Err}
+use Rattle.questions.specs.declared.Refusal.TheVariants as question
 use Rattle.checking.specs.Validate.{validated}
-use Rattle.checking.specs.declared.Verdict.TheVariants.{Refused}
+use Rattle.checking.specs.Verdict.{Verdict}
 use Rattle.sheet.specs.Sheet.{Point, Sheet, places_of, corners_of, labels_of}
 use Rattle.sheet.specs.Edition.{edition}
 use Rattle.sheet.specs.Contents.{Contents, contents}
 use Rattle.sheet.proofs.Stores.{length-corners, length-labels}
 use Rattle.sheet.proofs.Contents.{contents-laws}
 use Rattle.reading.specs.Given.{read, refused, holds?, reading_in, sheet_answer, Gives}
-use Rattle.reading.specs.declared.Answer.{Answer}
-use Rattle.reading.specs.declared.Answer.TheVariants as answer
+use Rattle.sheet.specs.declared.Counts.{Counts}
+use Rattle.sheet.specs.declared.Refusal.{Refusal}
+use Rattle.sheet.specs.declared.Refusal.TheVariants.{NoRoom}
 use Rattle.reading.proofs.Giving.{IsRead, is_read, holds_means}
 use Rattle.printing.specs.Printed.{verdict_on}
 use Rattle.printing.proofs.Verdicts.{enough}
@@ -37,10 +39,16 @@ pub record Fits (n m : ℕ) (ps : List Float) (cs ls : List ℕ) : Type 0 where
   pub corners : m * 3 ≤ length cs
   pub labels : m ≤ length ls
 
-module _ (input : List ℕ) (p p' : List Float) (c c' l l' : List ℕ) (r : Answer) (h : Gives (reading_in (contents input) p c l) p p' c c' l l' r) where
-  module _ (n m : ℕ) (e : r ≡ answer.Sheet n m) where
+module _ (input : List ℕ) (p p' : List Float) (c c' l l' : List ℕ) (r : Result Counts Refusal) (h : Gives (reading_in (contents input) p c l) p p' c c' l l' r) where
+  module _ (counts : Counts) (e : r ≡ Ok counts) where
+    abbrev n : ℕ
+    n = counts.points
+
+    abbrev m : ℕ
+    m = counts.triangles
+
     s : IsRead input n m p p' c c' l l'
-    s = is_read input n m p p' c c' l l' r h e
+    s = is_read input counts p p' c c' l l' r h e
 
     unit : ℕ
     unfolding s
@@ -58,7 +66,7 @@ module _ (input : List ℕ) (p p' : List Float) (c c' l l' : List ℕ) (r : Answ
     unfolding s
     labels-long = length-labels s.sheet.triangles ∙ sym s.m-triangles
 
-    pub fits : Fits n m p' c' l'
+    pub fits : Fits counts.points counts.triangles p' c' l'
     unfolding s unit
     fits =
         let a = s.said.in_range in
@@ -75,7 +83,7 @@ module _ (input : List ℕ) (p p' : List Float) (c c' l l' : List ℕ) (r : Answ
           labels = omega (arith, labels-long);
         }
 
-    pub sheet-verdict : (work : List ℕ) → 10240 ≤ length work → validated (take (n * 3) p') (take (m * 3) c') (take m l') work ≡ verdict_on (contents input)
+    pub sheet-verdict : (work : List ℕ) → 10240 ≤ length work → validated (take (counts.points * 3) p') (take (counts.triangles * 3) c') (take counts.triangles l') work ≡ verdict_on (contents input)
     unfolding s unit
     sheet-verdict work room =
         let P = places_of unit s.sheet.points in
@@ -97,13 +105,13 @@ module _ (input : List ℕ) (p p' : List Float) (c c' l l' : List ℕ) (r : Answ
         let a = (contents-laws.says input number s e).in_range in
         (holds_means s (length p) (length c) (length l)).1 (omega (arith, a.points), (omega (arith, a.triangles), omega (arith, a.triangles)))
 
-    pub no_sheet : (why : ℕ) → r ≡ answer.Refused why → Refused (Question 16) ≡ verdict_on (contents input)
+    pub no_sheet : (why : Refusal) → r ≡ Err why → ◌≡◌ {A = Verdict} (Err question.Sheet) (verdict_on (contents input))
     no_sheet why e = go (contents input) refl
       where
-        go : (x : Contents) → contents input ≡ x → Refused (Question 16) ≡ verdict_on x
+        go : (x : Contents) → contents input ≡ x → ◌≡◌ {A = Verdict} (Err question.Sheet) (verdict_on x)
         go Contents.nothing g = refl
         go (Contents.sheet number s) g =
-            let f : answer.Refused why ≡ sheet_answer (cond true (read number s) (refused 35)) =
-            sym e ∙ h.answered ∙ ap (λ (x : Contents). sheet_answer (reading_in x p c l)) g ∙ ap (λ (b : Bool). sheet_answer (cond b (read number s) (refused 35))) (holds number s g) in
+            let f : ◌≡◌ {A = Result Counts Refusal} (Err why) (sheet_answer (cond true (read number s) (refused NoRoom))) =
+            sym e ∙ h.answered ∙ ap (λ (x : Contents). sheet_answer (reading_in x p c l)) g ∙ ap (λ (b : Bool). sheet_answer (cond b (read number s) (refused NoRoom))) (holds number s g) in
             let bad : ◌≡◌ {A = ℕ} 0 1 = cc in
             absurd (omega arith)

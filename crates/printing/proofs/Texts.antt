@@ -9,8 +9,8 @@ use lib.Ieee.{Float, binary64, of_bits}
 use Rattle.questions.specs.Refusal.{refusal_number}
 use Rattle.questions.specs.declared.Refusal.{Refusal}
 use Rattle.quality.proofs.Numbers.{zero_is}
-use Rattle.checking.specs.declared.Verdict.{Verdict}
-use Rattle.checking.specs.declared.Verdict.TheVariants.{Refused}
+use Rattle.std.specs.Prelude.{Err}
+use Rattle.checking.specs.Verdict.{Verdict}
 use Rattle.sheet.specs.Text.{bytes, decimal, line}
 use Rattle.sheet.specs.Stages.{ended}
 use Rattle.sheet.specs.Contents.{contents}
@@ -60,8 +60,8 @@ prints input list zeros list' v {count = count} z e p =
       written = p.stored ∙ ap (λ (l : List ℕ). sets l 0 (printed_verdict v)) z ∙ on-zeros (length list) (printed_verdict v) ∙ ap (onto (length list)) w;
     }
 
-pub prints_refused : (input list zeros list' : List ℕ) (why : Refusal) {n long count : ℕ} → zeros ≡ replicate (length list) 0 → Refused why ≡ verdict_on (contents input) → n ≡ refusal_number why → Put (printed_lines n (of_bits binary64 0) (of_bits binary64 0)) long zeros list' 0 count
+pub prints_refused : (input list zeros list' : List ℕ) (why : Refusal) {n long count : ℕ} → zeros ≡ replicate (length list) 0 → Err why ≡ verdict_on (contents input) → n ≡ refusal_number why → Put (printed_lines n (of_bits binary64 0) (of_bits binary64 0)) long zeros list' 0 count
     → Prints input list list' count
 prints_refused input list zeros list' why {n} {long} {count} z e h p =
-    prints input list zeros list' (Refused why) z e
+    prints input list zeros list' (Err why) z e
     (subst (λ (w : List ℕ). Put w long zeros list' 0 count) (λ i. printed_lines (h i) (zero_is i) (zero_is i)) p)

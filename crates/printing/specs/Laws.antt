@@ -3,7 +3,7 @@ use Rattle.std.specs.Prelude.{ℕ, ◌-◌, ◌≤◌, ◌≡◌, false, List, �
 use Rattle.std.specs.Float.Ieee.{is_nan}
 use Rattle.questions.specs.Questions.{needed}
 use Rattle.checking.specs.Validate.{validated}
-use Rattle.checking.specs.declared.Verdict.TheVariants.{Accepted}
+use Rattle.checking.specs.Verdict.{accepted}
 use Rattle.sheet.specs.Edition.{edition}
 use Rattle.sheet.specs.Sheet.{Sheet}
 use Rattle.sheet.specs.Contents.{Contents, Says}
@@ -22,4 +22,4 @@ pub record PrintingLaws : Type 0 where
   -- work words beyond those that are needed change no verdict
   pub enough : (points : List Float) (corners labels work : List ℕ) → needed points corners ≤ length work → validated points corners labels work ≡ verdict_of points corners labels
   -- the values of an accepted surface are no NaN, and so have their bits
-  pub numbers : (c : Contents) (quality volume : Float) → verdict_on c ≡ Accepted quality volume → (is_nan quality ≡ false) × (is_nan volume ≡ false)
+  pub numbers : (c : Contents) (quality volume : Float) → verdict_on c ≡ accepted quality volume → (is_nan quality ≡ false) × (is_nan volume ≡ false)

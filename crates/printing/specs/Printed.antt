@@ -1,13 +1,11 @@
 -- The printed check (document 01, "Sheet and printed check"): what is printed of an input text, to the last byte, whatever the text is. Definitions only.
-use Rattle.std.specs.Prelude.{ℕ, zero, suc, ◌+◌, ◌-◌, ◌/◌, ◌%◌, ◌^◌, ◌≡◌, cond, List, [], ◌∷◌, ◌++◌, ltb, Float, length, replicate, take}
+use Rattle.std.specs.Prelude.{ℕ, zero, suc, ◌+◌, ◌-◌, ◌/◌, ◌%◌, ◌^◌, ◌≡◌, cond, List, [], ◌∷◌, ◌++◌, ltb, Float, length, replicate, take, Err}
 use Rattle.std.specs.Float.{binary64}
 use Rattle.std.specs.Float.Ieee.{to_bits}
 use Rattle.questions.specs.Questions.{needed}
-use Rattle.questions.specs.declared.Refusal.TheVariants.{Question}
-use Rattle.checking.specs.Verdict.{number_of, quality_of, volume_of}
+use Rattle.questions.specs.declared.Refusal.TheVariants as refusal
+use Rattle.checking.specs.Verdict.{Verdict, number_of, quality_of, volume_of}
 use Rattle.checking.specs.Validate.{validated}
-use Rattle.checking.specs.declared.Verdict.{Verdict}
-use Rattle.checking.specs.declared.Verdict.TheVariants.{Refused}
 use Rattle.sheet.specs.Text.{bytes, decimal, line}
 use Rattle.sheet.specs.Edition.{edition}
 use Rattle.sheet.specs.Sheet.{places_of, corners_of, labels_of}
@@ -19,9 +17,9 @@ use Rattle.sheet.specs.Contents.{Contents, contents}
 abbrev pub verdict_of : (points : List Float) (corners labels : List ℕ) → Verdict
 verdict_of points corners labels = validated points corners labels (replicate (needed points corners) 0)
 
--- the verdict on the surface that a sheet of either edition says; 16 for what is no sheet
+-- the verdict on the surface that a sheet of either edition says, or that there is none
 abbrev pub verdict_on : Contents → Verdict
-verdict_on Contents.nothing = Refused (Question 16)
+verdict_on Contents.nothing = Err refusal.Sheet
 verdict_on (Contents.sheet number s) = verdict_of (places_of (edition number).unit s.points) (corners_of s.triangles) (labels_of s.triangles)
 
 -- ---- hexadecimal

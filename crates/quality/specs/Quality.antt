@@ -1,13 +1,11 @@
 -- One triangle, by the points of its corners: its quality and its share of the volume, each operation rounded as IEEE 754 has it, in the order that is written. Definitions only.
-use Rattle.std.specs.Prelude.{ℕ, Bool, not, ◌||◌, cond, pos, Float}
+use Rattle.std.specs.Prelude.{ℕ, Bool, not, ◌||◌, cond, pos, Float, Option, None, Some}
 use Rattle.std.specs.Float.{binary64}
 use Rattle.std.specs.Float.Ieee.{of_int, div, le}
 use Rattle.float.specs.Root.{root}
 use Rattle.float.specs.Order.{lesser, is_finite}
 use Rattle.float.specs.Point.{plus, times, difference, dotted, crossed}
 use Rattle.float.specs.declared.Point.{Point}
-use Rattle.quality.specs.declared.Rated.{Rated}
-use Rattle.quality.specs.declared.Rated.TheVariants.{Kept, Degenerate}
 
 -- the whole number n as an f64
 abbrev pub number : ℕ → Float
@@ -46,6 +44,6 @@ wedge a b c = over (dotted a (crossed b c)) (number 6)
 abbrev pub degenerate : Float → Bool
 degenerate q = not (is_finite q) || le q (number 0)
 
--- the least quality so far with one more, or that the one more is refused
-unfoldable pub least_with : Float → Float → Rated
-least_with minimum q = cond (degenerate q) Degenerate (Kept (lesser minimum q))
+-- the least quality so far with one more, or none where the one more is refused
+unfoldable pub least_with : Float → Float → Option Float
+least_with minimum q = cond (degenerate q) None (Some (lesser minimum q))

@@ -6,14 +6,7 @@ ghost use Rattle.float.specs.Point.{dotted};
 ghost use Rattle.quality.specs.Quality.{scale, normal, squares, quality, wedge, least_with};
 ghost use Rattle.quality.specs.Quick.{sized_of, Passes};
 
-// The least quality with one more triangle, or that its quality is not finite or not above 0.
-#[derive(Clone, Copy)]
-pub enum Rated {
-    Kept(f64),
-    Degenerate,
-}
-
-// 2 * sqrt 3, which makes the quality of an equal-sided triangle 1.
+// 2 * sqrt 3, which makes the quality of an equal-sided triangle 1. (Computed once a surface and handed down: a literal would not show that it is this root.)
 pub fn factor() -> f64
     ensures { result ≡ scale }
 {
@@ -42,11 +35,7 @@ fn sides_squared(a: float::Point, b: float::Point, c: float::Point) -> f64
 fn sized(x: f64) -> bool
     ensures { result ≡ sized_of x }
 {
-    if 3.054936363499605e-151 < x {
-        x < 3.273390607896142e150
-    } else {
-        false
-    }
+    3.054936363499605e-151 < x && x < 3.273390607896142e150
 }
 
 // A quick test, with no root, that passes for most triangles: the quality is kept and is at least the minimum.
@@ -74,24 +63,30 @@ fn passes(factor: f64, minimum: f64, d: f64, sum: f64) -> bool
     minimum <= factor * s / sum
 }
 
-// The least quality with the triangle a, b, c, where minimum is the least so far.
-pub fn least(factor: f64, minimum: f64, a: float::Point, b: float::Point, c: float::Point) -> Rated
+// The least quality with the triangle a, b, c, where minimum is the least so far; none where its quality is not finite or not above 0.
+pub fn least(
+    factor: f64,
+    minimum: f64,
+    a: float::Point,
+    b: float::Point,
+    c: float::Point,
+) -> Option<f64>
     requires { factor ≡ scale }
     ensures { result ≡ least_with minimum (quality a b c) }
 {
     let d = normal_squared(a, b, c);
     let sum = sides_squared(a, b, c);
     if passes(factor, minimum, d, sum) {
-        return Rated::Kept(minimum);
+        return Some(minimum);
     }
     let q = factor * float::sqrt(d) / sum;
     if !float::is_finite(q) {
-        return Rated::Degenerate;
+        return None;
     }
     if q <= 0.0 {
-        return Rated::Degenerate;
+        return None;
     }
-    Rated::Kept(float::min(minimum, q))
+    Some(float::min(minimum, q))
 }
 
 // The signed volume between the triangle a, b, c and the origin.

@@ -1,5 +1,5 @@
 -- The labels of a corner by the places of the corner list: the place k belongs to the triangle k / 3, and has that triangle's label.
-use Prim.Native.Nat.{ℕ, zero, suc, ◌+◌, ◌-◌, ◌/◌, ◌%◌, ◌<◌}
+use Prim.Native.Nat.{ℕ, zero, suc, ◌+◌, ◌/◌, ◌%◌, ◌<◌}
 use native.Mathlib.Omega.{arith}
 use mathlib.Core.Path.{◌≡◌, refl, sym, ap, ◌∙◌, subst}
 use mathlib.Core.Logic.{◌⊎◌, inl, inr}
@@ -14,7 +14,7 @@ use Rattle.surface.proofs.Bools as bools
 use Rattle.halfedges.specs.Place.{at}
 use Rattle.questions.specs.Questions.{unopposed?}
 use Rattle.surface.specs.Label.{carries}
-use Rattle.questions.specs.Labels.{both, opposed}
+use Rattle.questions.specs.Labels.{opposed}
 use Rattle.questions.specs.Stages.{opp}
 use Rattle.surface.proofs.All.{all-at, at_all}
 

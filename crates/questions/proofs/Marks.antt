@@ -1,17 +1,17 @@
 -- The marks of the labels that a corner carries: the word at 8 * corner + label is 1 where a place passed has both. One turn of the loop that makes them.
-use Prim.Native.Nat.{ℕ, suc, ◌+◌, ◌*◌, ◌-◌, ◌/◌, ◌<◌, ◌≤◌}
+use Prim.Native.Nat.{ℕ, suc, ◌+◌, ◌*◌, ◌/◌, ◌<◌, ◌≤◌}
 use native.Mathlib.Numerals.{add-one}
 use native.Mathlib.Omega.{arith}
 use mathlib.Core.Path.{◌≡◌, refl, sym, ap, ap₂, ◌∙◌, subst}
 use mathlib.Core.Bool.{Bool, true, false}
 use mathlib.Core.List.{List}
 use lib.Dec.{eqb}
-use lib.ListN.{length, set}
-use lib.Seq.{get_or-set_same, get_or-set_other}
+use lib.ListN.{length, drop, set, length-set}
+use lib.Seq.{get_or-set_same, get_or-set_other, drop-set-lt}
 use borrow.Author.Tests.{eqb-true, eqb-false}
 use Rattle.halfedges.specs.Place.{at}
-use Rattle.questions.specs.Stages.{opp, slot}
-use Rattle.questions.proofs.Labels.{Labelled, Clash}
+use Rattle.questions.specs.Stages.{Listed, Marked, opp, slot}
+use Rattle.questions.proofs.Labels.{Labelled, Clash, some-opposed, none-opposed}
 
 -- what holds when the places below k are passed
 pub record Marks (c ls : List ℕ) (p : ℕ) (w : List ℕ) (k : ℕ) : Type 0 where
@@ -118,3 +118,32 @@ module _ (c ls : List ℕ) (p : ℕ) (w : List ℕ) (k : ℕ) (marks : Marks c l
 
     pub turn_on : p * 8 ≤ length w → (at w (slot v o) ≡ 1 → ⊥) → Marks c ls p (set w (slot v l) 1) (k + 1)
     turn_on room n = subst (λ (m : ℕ). Marks c ls p (set w m 1) (k + 1)) (sym (ap₂ slot ev el)) (marks-more room (λ e. n (sym other ∙ e)))
+
+-- what holds at the head of the loop that marks, at its ends and after a turn
+pub record Marking (c ls : List ℕ) (p : ℕ) (w w' : List ℕ) (k : ℕ) : Type 0 where
+  pub as-many : length w' ≡ length w
+  pub far : drop (p * 8) w' ≡ drop (p * 8) w
+  pub marks : Marks c ls p w' k
+
+module _ {c ls : List ℕ} {p : ℕ} {w w' : List ℕ} {k : ℕ} (g : Listed c ls p w) (m : Marking c ls p w w' k) where
+  known_at : (i : ℕ) → i < length c → at ls (i / 3) < 8
+  known_at i l = omega (arith, g.known (i / 3) (omega (arith, g.sized.thirds, g.sized.labelled)))
+
+  module _ (h : k < length c) {v l o : ℕ} (ev : v ≡ at c k) (el : l ≡ at ls (k / 3)) (eo : o ≡ opp l) where
+    pub marking-stops : at w' (slot v o) ≡ 1 → Marked c ls (p * 8) w w' false
+    marking-stops e =
+        let x = turn_stops c ls p w' k m.marks (known_at k h) (g.below k h) ev el eo e h in
+        record { answer = sym (some-opposed c ls g.sized.thirds g.sized.labelled x (known_at x.i x.low_i)); far = m.far }
+
+    pub marking-on : (at w' (slot v o) ≡ 1 → ⊥) → Marking c ls p w (set w' (slot v l) 1) (k + 1)
+    marking-on n =
+        let b : v < p = subst (λ (u : ℕ). u < p) (sym ev) (g.below k h) in
+        let t : l < 8 = subst (λ (u : ℕ). u < 8) (sym el) (known_at k h) in
+        record {
+          as-many = length-set w' (slot v l) 1 ∙ m.as-many;
+          far = drop-set-lt (p * 8) w' (slot v l) 1 (omega arith) ∙ m.far;
+          marks = turn_on c ls p w' k m.marks (known_at k h) (g.below k h) ev el eo (omega (arith, g.sized.room, m.as-many)) n;
+        }
+
+  pub marking-ends : length c ≤ k → Marked c ls (p * 8) w w' true
+  marking-ends h = record { answer = sym (none-opposed c ls (λ x. m.marks.apart (record { i = x.i; j = x.j; low_i = omega (arith, x.low_i); low_j = omega (arith, x.low_j); same = x.same; against = x.against }))); far = m.far }

@@ -18,10 +18,10 @@ use Rattle.surface.proofs.Findings.{finding-order}
 use Rattle.surface.proofs.Relisting.{and_turn, corners-relisted, carries-relisted, relisted, every_triangle, every-number, every-label}
 use Rattle.questions.specs.Rules.{distinct?}
 use Rattle.questions.specs.Labels.{opposed}
-use Rattle.questions.specs.Refusal.{on_finding}
+use Rattle.questions.specs.Refusal.{Asked, on_finding}
 use Rattle.questions.specs.Questions.{ask, lent_questions, unopposed?, further_questions, surface_questions}
-use Rattle.questions.specs.declared.Asked.{Asked}
-use Rattle.questions.specs.declared.Asked.TheVariants.{Passed, Refused}
+use Rattle.questions.specs.declared.Refusal.TheVariants.{Lengths, TooMany, WorkTooShort, NotFinite}
+use Rattle.std.specs.Prelude.{Ok, Err}
 use Rattle.questions.proofs.Counted.{lent-passed}
 use Rattle.questions.proofs.Rules.{distinct?_iff}
 use Rattle.questions.proofs.Chain.{by-further, by_first}
@@ -30,7 +30,7 @@ use Rattle.questions.proofs.Chain.{by-further, by_first}
 lent_same : (ps : List Float) (c ls w c' ls' w' : List ℕ) → length c ≡ length c' → length ls ≡ length ls' → length w ≡ length w' → lent_questions ps c ls w ≡ lent_questions ps c' ls' w'
 unfolding lent_questions
 lent_same ps c ls w c' ls' w' e f g =
-    λ i. ask (eqb (length ps % 3) 0 && (eqb (e i % 3) 0 && eqb (f i) (e i / 3))) 1 (ask (leb (length ps / 3) 32768 && leb (e i / 3) 32768) 2 (ask (leb (32 * (e i / 3) + 16 * (length ps / 3)) (g i)) 3 (ask (every is_finite ps) 4 Passed)))
+    λ i. ask (eqb (length ps % 3) 0 && (eqb (e i % 3) 0 && eqb (f i) (e i / 3))) Lengths (ask (leb (length ps / 3) 32768 && leb (e i / 3) 32768) TooMany (ask (leb (32 * (e i / 3) + 16 * (length ps / 3)) (g i)) WorkTooShort (ask (every is_finite ps) NotFinite (Ok tt))))
 
 module _ {c ls c' ls' : List ℕ} (r : RelistedLists c ls c' ls') where
   opposed-same : (v : ℕ) → opposed (triangles c) ls v ≡ opposed (triangles c') ls' v
@@ -69,7 +69,7 @@ module _ {c ls c' ls' : List ℕ} (r : RelistedLists c ls c' ls') where
   surface_relisted ps w w' e = go (lent_questions ps c ls w) refl
     where
       go : (a : Asked) → lent_questions ps c ls w ≡ a → surface_questions ps c ls w ≡ surface_questions ps c' ls' w'
-      go (Refused why) f = by_first ps c ls w f ∙ sym (by_first ps c' ls' w' (sym (lent-relisted ps w w' e) ∙ f))
-      go Passed f =
+      go (Err why) f = by_first ps c ls w f ∙ sym (by_first ps c' ls' w' (sym (lent-relisted ps w w' e) ∙ f))
+      go (Ok x) f =
           let k = (lent-passed ps c ls w f).0 in
           by_first ps c ls w f ∙ further_same k.corners k.labels (length ps / 3) ∙ sym (by_first ps c' ls' w' (sym (lent-relisted ps w w' e) ∙ f))

@@ -1,4 +1,4 @@
--- In readable form: what a surface has that passes all questions that improving and editing share (`surface_questions` is `Passed` exactly then: `admitted_iff` of proofs/Laws). Definitions only.
+-- In readable form: what a surface has that passes all questions that improving and editing share (`surface_questions` is `Ok` exactly then: `admitted_iff` of proofs/Laws). Definitions only.
 use Rattle.std.specs.Prelude.{ℕ, ◌/◌, ◌%◌, ◌<◌, ◌≤◌, ◌≡◌, true, false, List, length, get_or, Float}
 use Rattle.std.specs.Float.{nan}
 use Rattle.float.specs.Order.{is_finite}

@@ -1,5 +1,5 @@
 -- Document 01, "Questions in turn": the questions about the surface that is lent, and the work words afterwards. Definitions only.
-use Rattle.std.specs.Prelude.{ℕ, ◌+◌, ◌*◌, ◌/◌, ◌%◌, ◌≡◌, Bool, not, ◌&&◌, cond, List, ◌++◌, eqb, leb, ltb, length, drop, replicate, Float}
+use Rattle.std.specs.Prelude.{ℕ, ◌+◌, ◌*◌, ◌/◌, ◌%◌, ◌≡◌, Bool, not, ◌&&◌, cond, List, ◌++◌, eqb, leb, ltb, length, drop, replicate, Float, Ok, Err}
 use Rattle.float.specs.Order.{is_finite}
 use Rattle.surface.specs.Triangle.{triangles}
 use Rattle.surface.specs.Check.{differ?, every}
@@ -7,19 +7,18 @@ use Rattle.surface.specs.Finding.{finding}
 use Rattle.surface.specs.Label.{carries}
 use Rattle.questions.specs.Rules.{distinct?}
 use Rattle.questions.specs.Labels.{opposed}
-use Rattle.questions.specs.Refusal.{refusal_number, asked_number, on_finding}
-use Rattle.questions.specs.declared.Refusal.TheVariants.{Question}
-use Rattle.questions.specs.declared.Asked.{Asked}
-use Rattle.questions.specs.declared.Asked.TheVariants.{Passed, Refused}
+use Rattle.questions.specs.Refusal.{Asked, refusal_number, asked_number, on_finding}
+use Rattle.questions.specs.declared.Refusal.{Refusal}
+use Rattle.questions.specs.declared.Refusal.TheVariants.{Lengths, TooMany, WorkTooShort, NotFinite, CornerMissing, Label, SameCorner, OpposedLabels, SameTriangle}
 
--- a question's answer, its number and what is asked after it: "no" gives the number
-abbrev pub ask : Bool → ℕ → Asked → Asked
-ask answer number rest = cond answer rest (Refused (Question number))
+-- a question's answer, why "no" refuses, and what is asked after it
+abbrev pub ask : Bool → Refusal → Asked → Asked
+ask answer why rest = cond answer rest (Err why)
 
 -- questions, and what is asked after them
 abbrev pub and_then : Asked → Asked → Asked
-and_then Passed rest = rest
-and_then (Refused why) rest = Refused why
+and_then (Ok x) rest = rest
+and_then (Err why) rest = Err why
 
 -- the work words that the surface needs: 32 per triangle plus 16 per point
 abbrev pub needed : List Float → List ℕ → ℕ
@@ -30,13 +29,13 @@ unfoldable pub lent_questions : (points : List Float) (corners labels work : Lis
 unfolding every
 lent_questions points corners labels work =
     -- Are point values and corner numbers multiples of three, and labels as many as triangles?
-    ask (eqb (length points % 3) 0 && (eqb (length corners % 3) 0 && eqb (length labels) (length corners / 3))) 1
+    ask (eqb (length points % 3) 0 && (eqb (length corners % 3) 0 && eqb (length labels) (length corners / 3))) Lengths
     -- At most 32,768 points and 32,768 triangles?
-    (ask (leb (length points / 3) 32768 && leb (length corners / 3) 32768) 2
+    (ask (leb (length points / 3) 32768 && leb (length corners / 3) 32768) TooMany
     -- Enough work words?
-    (ask (leb (needed points corners) (length work)) 3
+    (ask (leb (needed points corners) (length work)) WorkTooShort
     -- All point values finite?
-    (ask (every is_finite points) 4 Passed)))
+    (ask (every is_finite points) NotFinite (Ok tt))))
 
 -- labels are at most 7
 abbrev pub known? : List ℕ → Bool
@@ -54,13 +53,13 @@ unopposed? corners labels = every (λ (v : ℕ). not (opposed (triangles corners
 unfoldable pub further_questions : (p : ℕ) (corners labels : List ℕ) → Asked
 unfolding every carries distinct? finding
 further_questions p corners labels =
-    ask (known? labels) 9
-    (ask (listed? p corners) 5
-    (ask (every differ? (triangles corners)) 10
-    (ask (unopposed? corners labels) 11
+    ask (known? labels) Label
+    (ask (listed? p corners) CornerMissing
+    (ask (every differ? (triangles corners)) SameCorner
+    (ask (unopposed? corners labels) OpposedLabels
     -- in question 7's turn: what is found of (b) and (c)
     (and_then (on_finding (finding (triangles corners)))
-    (ask (distinct? (triangles corners)) 12 Passed)))))
+    (ask (distinct? (triangles corners)) SameTriangle (Ok tt))))))
 
 -- All questions that improving and editing share, in turn.
 unfoldable pub surface_questions : (points : List Float) (corners labels work : List ℕ) → Asked
@@ -77,8 +76,8 @@ work_after number points corners work = cond (leb 1 number && leb number 3) work
 
 -- what `lent` promises of every call: questions 1 to 4 are asked, and where one refuses, the work words are as after its number
 abbrev pub lent_words : Asked → List Float → List ℕ → List ℕ → List ℕ
-lent_words Passed points corners work = work
-lent_words (Refused why) points corners work = work_after (refusal_number why) points corners work
+lent_words (Ok x) points corners work = work
+lent_words (Err why) points corners work = work_after (refusal_number why) points corners work
 
 pub record Lends (points : List Float) (corners labels work work' : List ℕ) (asked : Asked) : Type 0 where
   pub answer : asked ≡ lent_questions points corners labels work

@@ -1,13 +1,19 @@
 -- What the private functions are handed and what they leave. p is the number of points.
-use Rattle.std.specs.Prelude.{ℕ, ◌+◌, ◌*◌, ◌-◌, ◌/◌, ◌%◌, ◌<◌, ◌≤◌, ◌≡◌, Bool, List, length, drop}
+use Rattle.std.specs.Prelude.{ℕ, ◌+◌, ◌*◌, ◌-◌, ◌/◌, ◌%◌, ◌<◌, ◌≤◌, ◌≡◌, Bool, List, length, drop, Float, Ok}
 use Rattle.surface.specs.Triangle.{triangles}
 use Rattle.surface.specs.Check.{differ?}
 use Rattle.halfedges.specs.Place.{at}
 use Rattle.closing.specs.Closing.{needed as lent, Zeroed}
 use Rattle.surface.specs.Check.{every}
-use Rattle.questions.specs.Questions.{ask, known?, listed?, unopposed?, further_questions}
-use Rattle.questions.specs.declared.Asked.{Asked}
-use Rattle.questions.specs.declared.Asked.TheVariants.{Passed}
+use Rattle.float.specs.Order.{is_finite}
+use Rattle.questions.specs.Questions.{ask, and_then, lent_questions, known?, listed?, unopposed?, further_questions}
+use Rattle.questions.specs.Refusal.{Asked, asked_number}
+use Rattle.questions.specs.declared.Refusal.TheVariants.{NotFinite, Label, CornerMissing, SameCorner, OpposedLabels}
+
+-- questions 1 to 3 are asked, and question 4 is left
+pub record FirstThree (points : List Float) (corners labels work : List ℕ) (asked : Asked) : Type 0 where
+  pub answer : lent_questions points corners labels work ≡ and_then asked (ask (every is_finite points) NotFinite (Ok tt))
+  pub early : asked_number asked ≤ 3
 
 -- lists that pass questions 1 to 3
 pub record Sized (corners labels : List ℕ) (p : ℕ) (work : List ℕ) : Type 0 where
@@ -37,7 +43,7 @@ pub record Marked (corners labels : List ℕ) (n : ℕ) (work work' : List ℕ) 
 
 -- questions 9, 5, 10 and 11 are asked
 pub record BeforeRules (corners labels : List ℕ) (p : ℕ) (work work' : List ℕ) (asked : Asked) : Type 0 where
-  pub answer : asked ≡ ask (known? labels) 9 (ask (listed? p corners) 5 (ask (every differ? (triangles corners)) 10 (ask (unopposed? corners labels) 11 Passed)))
+  pub answer : asked ≡ ask (known? labels) Label (ask (listed? p corners) CornerMissing (ask (every differ? (triangles corners)) SameCorner (ask (unopposed? corners labels) OpposedLabels (Ok tt))))
   pub far : drop (lent corners p) work' ≡ drop (lent corners p) work
 
 -- and then the rules

@@ -4,7 +4,6 @@ use mathlib.Core.Logic.{◌↔◌}
 use mathlib.Core.Bool.{Bool, true, false, cond}
 use mathlib.Core.List.{List, ◌++◌}
 use Prim.Native.Nat.{ℕ, ◌-◌, ◌*◌, ◌≤◌}
-use native.Mathlib.Omega.{arith}
 use lib.Ieee.{Float}
 use lib.IntN.{ℤ}
 use lib.ListN.{length, take, drop, replicate}
@@ -17,9 +16,11 @@ use Rattle.sheet.proofs.Contents.{contents-laws}
 use Rattle.sheet.proofs.Stores.{drop-same, length-corners, length-labels}
 use Rattle.sheet.proofs.Tests.{both-mean, le_means, fails}
 use Rattle.reading.specs.Given.{Reading, read, refused, holds?, reading_in, zero_float, Gives}
-use Rattle.reading.specs.Stages.{placed_first, copied_first}
-use Rattle.reading.specs.declared.Answer as declared
-use Rattle.reading.specs.declared.Answer.TheVariants as answer
+use Rattle.reading.specs.Stages.{placed_first}
+use Rattle.std.specs.Prelude.{Result, Ok, Err}
+use Rattle.sheet.specs.declared.Counts.{Counts}
+use Rattle.sheet.specs.declared.Refusal.{Refusal}
+use Rattle.sheet.specs.declared.Refusal.TheVariants.{NoSheet, NoRoom}
 use Rattle.reading.proofs.Placing.{sheet-places}
 
 pub holds_means : (s : Sheet) (p c l : ℕ) → (holds? s p c l ≡ true) ↔ ((length s.points * 3 ≤ p) × ((length s.triangles * 3 ≤ c) × (length s.triangles ≤ l)))
@@ -30,42 +31,42 @@ module _ (input : List ℕ) (p p' : List Float) (c c' l l' : List ℕ) where
   made = reading_in (contents input) p c l
 
   -- a refusal, after which all is cleared
-  refuses : (number : ℕ) → made ≡ refused number → p' ≡ replicate (length p) zero_float → c' ≡ replicate (length c) 0 → l' ≡ replicate (length l) 0 → Gives made p p' c c' l l' (answer.Refused number)
-  refuses number e a b d = subst (λ (r : Reading). Gives r p p' c c' l l' (answer.Refused number)) (sym e) (record { answered = refl; point-list = a; corner-list = b; label-list = d })
+  refuses : (why : Refusal) → made ≡ refused why → p' ≡ replicate (length p) zero_float → c' ≡ replicate (length c) 0 → l' ≡ replicate (length l) 0 → Gives made p p' c c' l l' (Err why)
+  refuses why e a b d = subst (λ (r : Reading). Gives r p p' c c' l l' (Err why)) (sym e) (record { answered = refl; point-list = a; corner-list = b; label-list = d })
 
-  pub gives_16 : contents input ≡ Contents.nothing → p' ≡ replicate (length p) zero_float → c' ≡ replicate (length c) 0 → l' ≡ replicate (length l) 0 → Gives made p p' c c' l l' (answer.Refused 16)
-  gives_16 e = refuses 16 (ap (λ (x : Contents). reading_in x p c l) e)
+  pub gives_16 : contents input ≡ Contents.nothing → p' ≡ replicate (length p) zero_float → c' ≡ replicate (length c) 0 → l' ≡ replicate (length l) 0 → Gives made p p' c c' l l' (Err NoSheet)
+  gives_16 e = refuses NoSheet (ap (λ (x : Contents). reading_in x p c l) e)
 
   module _ (number n m : ℕ) (z z' : List ℤ) (x x' y y' : List ℕ) (f : IsFound input number n m z z' x x' y y') where
     s : Sheet
     s = f.sheet
 
-    by-room : (b : Bool) → holds? s (length p) (length c) (length l) ≡ b → made ≡ cond b (read number s) (refused 35)
+    by-room : (b : Bool) → holds? s (length p) (length c) (length l) ≡ b → made ≡ cond b (read number s) (refused NoRoom)
     unfolding s
-    by-room b e = ap (λ (t : Contents). reading_in t p c l) f.said ∙ ap (λ (t : Bool). cond t (read number s) (refused 35)) e
+    by-room b e = ap (λ (t : Contents). reading_in t p c l) f.said ∙ ap (λ (t : Bool). cond t (read number s) (refused NoRoom)) e
 
-    pub gives_35 : ((n * 3 ≤ length p) × ((m * 3 ≤ length c) × (m ≤ length l)) → ⊥) → p' ≡ replicate (length p) zero_float → c' ≡ replicate (length c) 0 → l' ≡ replicate (length l) 0 → Gives made p p' c c' l l' (answer.Refused 35)
+    pub gives_35 : ((n * 3 ≤ length p) × ((m * 3 ≤ length c) × (m ≤ length l)) → ⊥) → p' ≡ replicate (length p) zero_float → c' ≡ replicate (length c) 0 → l' ≡ replicate (length l) 0 → Gives made p p' c c' l l' (Err NoRoom)
     unfolding s
     gives_35 short =
-        refuses 35
+        refuses NoRoom
         (by-room false (fails (holds_means s (length p) (length c) (length l))
         (λ h. short (subst (λ (k : ℕ). k * 3 ≤ length p) f.n-points h.0, (subst (λ (k : ℕ). k * 3 ≤ length c) f.m-triangles h.1.0, subst (λ (k : ℕ). k ≤ length l) f.m-triangles h.1.1)))))
 
     -- the lists, once they are cleared and filled
     pub gives_sheet : (unit : ℕ) (p₀ : List Float) (c₀ l₀ : List ℕ) → n * 3 ≤ length p → m * 3 ≤ length c → m ≤ length l → unit ≡ (edition number).unit
         → p₀ ≡ replicate (length p) zero_float → p' ≡ placed_first unit z' (n * 3) p₀
-        → c₀ ≡ replicate (length c) 0 → c' ≡ copied_first x' (m * 3) c₀
-        → l₀ ≡ replicate (length l) 0 → l' ≡ copied_first y' m l₀
-        → Gives made p p' c c' l l' (answer.Sheet n m)
+        → c₀ ≡ replicate (length c) 0 → c' ≡ take (m * 3) x' ++ drop (m * 3) c₀
+        → l₀ ≡ replicate (length l) 0 → l' ≡ take m y' ++ drop m l₀
+        → Gives made p p' c c' l l' (Ok (record { points = n; triangles = m }))
     unfolding s
     gives_sheet unit p₀ c₀ l₀ hp hc hl u a b d g i j =
         let U = (edition number).unit in
         let n-is = sym f.n-points in
         let m-is = sym f.m-triangles in
         let room = (holds_means s (length p) (length c) (length l)).1 (subst (λ (k : ℕ). k * 3 ≤ length p) n-is hp, (subst (λ (k : ℕ). k * 3 ≤ length c) m-is hc, subst (λ (k : ℕ). k ≤ length l) m-is hl)) in
-        subst (λ (r : Reading). Gives r p p' c c' l l' (answer.Sheet n m)) (sym (by-room true room))
+        subst (λ (r : Reading). Gives r p p' c c' l l' (Ok (record { points = n; triangles = m }))) (sym (by-room true room))
         (record {
-          answered = λ t. answer.Sheet (n-is t) (m-is t);
+          answered = λ t. Ok (record { points = n-is t; triangles = m-is t });
           point-list =
               b ∙ ap (λ (k : ℕ). placed_first k z' (n * 3) p₀) u
               ∙ sheet-places U s.points n z' (drop (n * 3) z) p₀ f.n-points f.coordinate-list
@@ -90,17 +91,25 @@ pub record IsRead (input : List ℕ) (n m : ℕ) (p p' : List Float) (c c' l l' 
   pub corner-list : c' ≡ corners_of sheet.triangles ++ replicate (length c - length sheet.triangles * 3) 0
   pub label-list : l' ≡ labels_of sheet.triangles ++ replicate (length l - length sheet.triangles) 0
 
-module _ (input : List ℕ) (n m : ℕ) (p p' : List Float) (c c' l l' : List ℕ) where
-  not_refused : (number : ℕ) → answer.Sheet n m ≡ answer.Refused number → ⊥
-  not_refused number e = let bad : ◌≡◌ {A = ℕ} 0 1 = cc in omega arith
+module _ (input : List ℕ) (counts : Counts) (p p' : List Float) (c c' l l' : List ℕ) where
+  abbrev Is : Type 0
+  Is = IsRead input counts.points counts.triangles p p' c c' l l'
 
-  by_test : (number : ℕ) (s : Sheet) → contents input ≡ Contents.sheet number s → (b : Bool) → Gives (cond b (read number s) (refused 35)) p p' c c' l l' (answer.Sheet n m) → IsRead input n m p p' c c' l l'
-  by_test number s e true g = record { number = number; sheet = s; said = contents-laws.says input number s e; n-points = let q = g.answered in cc; m-triangles = let q = g.answered in cc; point-list = g.point-list; corner-list = g.corner-list; label-list = g.label-list }
-  by_test number s e false g = absurd (not_refused 35 g.answered)
+  not_refused : (why : Refusal) → ◌≡◌ {A = Result Counts Refusal} (Ok counts) (Err why) → ⊥
+  not_refused why e = cc
 
-  by-contents : (x : Contents) → contents input ≡ x → Gives (reading_in x p c l) p p' c c' l l' (answer.Sheet n m) → IsRead input n m p p' c c' l l'
-  by-contents Contents.nothing e g = absurd (not_refused 16 g.answered)
+  counted : (k : Counts) → ◌≡◌ {A = Result Counts Refusal} (Ok counts) (Ok k) → counts ≡ k
+  counted k e = cc
+
+  by_test : (number : ℕ) (s : Sheet) → contents input ≡ Contents.sheet number s → (b : Bool) → Gives (cond b (read number s) (refused NoRoom)) p p' c c' l l' (Ok counts) → Is
+  by_test number s e true g =
+      let q = counted (record { points = length s.points; triangles = length s.triangles }) g.answered in
+      record { number = number; sheet = s; said = contents-laws.says input number s e; n-points = ap (λ (k : Counts). k.points) q; m-triangles = ap (λ (k : Counts). k.triangles) q; point-list = g.point-list; corner-list = g.corner-list; label-list = g.label-list }
+  by_test number s e false g = absurd (not_refused NoRoom g.answered)
+
+  by-contents : (x : Contents) → contents input ≡ x → Gives (reading_in x p c l) p p' c c' l l' (Ok counts) → Is
+  by-contents Contents.nothing e g = absurd (not_refused NoSheet g.answered)
   by-contents (Contents.sheet number s) e g = by_test number s e (holds? s (length p) (length c) (length l)) g
 
-  pub is_read : (r : declared.Answer) → Gives (reading_in (contents input) p c l) p p' c c' l l' r → r ≡ answer.Sheet n m → IsRead input n m p p' c c' l l'
+  pub is_read : (r : Result Counts Refusal) → Gives (reading_in (contents input) p c l) p p' c c' l l' r → r ≡ Ok counts → IsRead input counts.points counts.triangles p p' c c' l l'
   is_read r g e = by-contents (contents input) refl (subst (Gives (reading_in (contents input) p c l) p p' c c' l l') e g)

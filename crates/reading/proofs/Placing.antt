@@ -1,16 +1,14 @@
--- Coordinates as floats, and copies, one after the other. Assumes nothing.
-use mathlib.Core.Path.{◌≡◌, refl, sym, ap, ◌∙◌}
+-- Coordinates as floats, one after the other. Assumes nothing.
+use mathlib.Core.Path.{◌≡◌, refl, ap, ◌∙◌}
 use mathlib.Core.List.{List, [], ◌∷◌, ◌++◌, map}
-use Prim.Native.Nat.{ℕ, ◌+◌, ◌*◌, ◌<◌}
-use native.Mathlib.Numerals.{add-one}
-use native.Mathlib.Omega.{arith}
+use Prim.Native.Nat.{ℕ, ◌*◌}
 use lib.Ieee.{Float}
 use lib.IntN.{ℤ}
-use lib.ListN.{length, get_or, take, drop, set}
-use lib.Seq.{take-suc, take_at, length-take-le}
+use lib.ListN.{length, take, drop}
+use lib.Seq.{take_at}
 use Rattle.sheet.specs.Sheet.{Point, place, places_of, coordinates_of}
-use Rattle.reading.specs.Stages.{placed_first, copied_first}
-use Rattle.sheet.proofs.Stores.{set_next, length_coordinates}
+use Rattle.reading.specs.Stages.{placed_first}
+use Rattle.sheet.proofs.Stores.{length_coordinates}
 
 module _ (unit : ℕ) where
   places_are : (ps : List Point) → map (place unit) (coordinates_of ps) ≡ places_of unit ps
@@ -22,12 +20,3 @@ module _ (unit : ℕ) where
   sheet-places ps n cs rest d e q =
       ap (λ (t : List Float). t ++ drop (n * 3) d)
       (ap (map (place unit)) (ap (take (n * 3)) q ∙ take_at (coordinates_of ps) rest (n * 3) (length_coordinates ps ∙ ap (λ (k : ℕ). k * 3) e)) ∙ places_are ps)
-
--- ---- copies
-
--- one more
-pub copy_more : (source : List ℕ) (k : ℕ) (d l : List ℕ) → k < length source → k < length d → l ≡ copied_first source k d → set l k (get_or source k 0) ≡ copied_first source (k + 1) d
-copy_more source k d l hs hd e =
-    ap (λ (t : List ℕ). set t k (get_or source k 0)) e
-    ∙ set_next (take k source) d k (get_or source k 0) (length-take-le k source (omega arith)) hd
-    ∙ ap (λ (t : List ℕ). t ++ drop (k + 1) d) (sym (take-suc source k 0 hs) ∙ ap (λ (n : ℕ). take n source) (sym (add-one k)))

@@ -5,7 +5,3 @@ use Rattle.sheet.specs.Sheet.{place}
 -- the first `count` coordinates as floats, and then the list as it was
 abbrev pub placed_first : ℕ → List ℤ → ℕ → List Float → List Float
 placed_first unit coordinates count points = map (place unit) (take count coordinates) ++ drop count points
-
--- the first `count` of one list, and then the other as it was
-abbrev pub copied_first : List ℕ → ℕ → List ℕ → List ℕ
-copied_first source count target = take count source ++ drop count target

@@ -10,7 +10,6 @@ use lib.ListN.{length, length-append, get_or, take, drop, set, length-set, lengt
 use lib.Seq.{take-suc, take-set-le, take-suc-set, take_all, length-take-le, get_or-set_other, get_or-take, get_or-drop}
 use mir.Val.{bool_byte}
 use Rattle.surface.specs.Triangle.{Tri, tri, triangles, corners}
-use Rattle.surface.specs.Edit.{place}
 use Rattle.surface.proofs.Flat.{length-triangles, place-triangles}
 use Rattle.halfedges.specs.Place.{at}
 use Rattle.rounds.specs.Pass.{retain}
@@ -38,9 +37,9 @@ unfolding corners
 corners-append [] ys = refl
 corners-append (t ∷ xs) ys = ap (λ (l : List ℕ). t.a ∷ t.b ∷ t.c ∷ l) (corners-append xs ys)
 
-pub byte_small : (b : Bool) → bool_byte b ≤ 1
-byte_small true = omega arith
-byte_small false = omega arith
+pub byte_small : (b : Bool) (n : ℕ) → n ≡ bool_byte b → n ≤ 1
+byte_small true n e = omega arith
+byte_small false n e = omega arith
 
 pub moved-is : (c w : List ℕ) (into i q x y z : ℕ) → x ≡ at c (3 * i) → y ≡ at c (3 * i + 1) → z ≡ at c (3 * i + 2)
     → set (set (set c (3 * q) (at w (into + x))) (3 * q + 1) (at w (into + y))) (3 * q + 2) (at w (into + z))
@@ -109,10 +108,7 @@ module _ (c ls w : List ℕ) (into gone : ℕ) where
     unfolding none
     ts_at i l = get_or-map (renumber (becomes w into)) (triangles c) i (tri 0 0 0) ∙ ap (renumber (becomes w into)) (place-triangles c i (omega (arith, h.labelled)))
 
-    module _ (c' ls' : List ℕ) (i q : ℕ) (I : Dropping c' ls' i q) (given : i < length ls') where
-      l : i < length ls
-      l = omega (arith, I.size_l)
-
+    module _ (c' ls' : List ℕ) (i q : ℕ) (I : Dropping c' ls' i q) (l : i < length ls) where
       -- the words of the corners of the triangle i
       reads : (j : ℕ) → j < 3 → (3 * i + j < length c') × (into + at c' (3 * i + j) < length w)
       reads j m =
@@ -125,7 +121,7 @@ module _ (c ls w : List ℕ) (into gone : ℕ) where
       pub movable : Movable c' ls' w into i q
       movable = record {
         room = (reads 2 (omega arith)).0;
-        label = given;
+        label = omega (arith, I.size_l);
         place = I.behind;
         first = subst (λ (n : ℕ). into + at c' n < length w) (same (3 * i)) (reads 0 (omega arith)).1;
         second = (reads 1 (omega arith)).1;
@@ -221,10 +217,10 @@ module _ (c ls w : List ℕ) (into gone : ℕ) where
               same : (n : ℕ) → n ≡ n + 0
               same n = omega arith
 
-      pub drop-on : (c'' ls'' : List ℕ) → Moved c' ls' w c'' ls'' into i q → Dropping c'' ls'' (i + 1) (q + bool_byte (eqb (at w (gone + i)) 0))
-      drop-on c'' ls'' m = rw (m.corners, m.labels) (drop_turn _ _ _ refl refl refl)
+      pub drop-on : (c'' ls'' : List ℕ) → Moved c' ls' w c'' ls'' into i q → (x : ℕ) → x ≡ bool_byte (eqb (at w (gone + i)) 0) → Dropping c'' ls'' (i + 1) (q + x)
+      drop-on c'' ls'' m x e = rw (e, m.corners, m.labels) (drop_turn _ _ _ refl refl refl)
 
-    pub drop-ends : (c' ls' : List ℕ) (i q : ℕ) → Dropping c' ls' i q → length ls' ≤ i → Dropped c ls w c' ls' into gone q
+    pub drop-ends : (c' ls' : List ℕ) (i q : ℕ) → Dropping c' ls' i q → length ls ≤ i → Dropped c ls w c' ls' into gone q
     drop-ends c' ls' i q I l = record {
       count = I.count ∙ ap length (whole ls (omega (arith, I.size_l)));
       corners = I.front-c ∙ ap corners (whole ts (omega (arith, ts_length, I.size_l)));

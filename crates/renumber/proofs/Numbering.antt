@@ -5,9 +5,7 @@ use native.Mathlib.Omega.{arith}
 use native.Mathlib.Decide.{ℕ_discrete, dec_lt}
 use mathlib.Core.Path.{◌≡◌, refl, sym, ◌∙◌, ap, ap₂, subst}
 use mathlib.Core.Logic.{◌⊎◌, inl, inr}
-use mathlib.Core.Bool.{cond}
 use mathlib.Core.List.{List, [], ◌∷◌, ◌++◌, append_assoc, Memᴰ}
-use lib.Dec.{ltb}
 use lib.ListN.{length, get_or, take, drop, set, length-append, length-set, take-append-drop}
 use lib.Seq.{take-suc, take-suc-set, take_all, get_or-set_same, get_or-set_other}
 use lib.Ieee.{Float, nan}
@@ -157,9 +155,9 @@ module _ (ps : List Float) (c w : List ℕ) (numbers : ℕ) where
     }
 
     module _ (ps' : List Float) (c' w' : List ℕ) (k m : ℕ) (I : Numbering ps' c' w' k m) where
-      pub number-ends : length c' ≤ k → Numbered ps c w ps' c' w' numbers m
-      number-ends g =
-          let l : length c ≤ k = omega (arith, I.size-c) in
+      pub number-ends : length c ≤ k → Numbered ps c w ps' c' w' numbers m
+      number-ends l =
+          let g : length c' ≤ k = omega (arith, I.size-c) in
           let e : take k c ≡ c = take_all k c l in
           let f : take k c' ≡ c' = take_all k c' g in
           let n = ap (λ (t : List ℕ). length (met [] t)) e in
@@ -174,10 +172,7 @@ module _ (ps : List Float) (c w : List ℕ) (numbers : ℕ) where
             lengths = (I.size-p, I.size-c, I.size_w);
           }
 
-      module _ (given : k < length c') where
-        l : k < length c
-        l = omega (arith, I.size-c)
-
+      module _ (l : k < length c) where
         pub corner-is : at c' k ≡ at c k
         corner-is = I.rest k (omega arith)
 
@@ -264,7 +259,7 @@ module _ (ps : List Float) (c w : List ℕ) (numbers : ℕ) where
 
         pub meetable : Meetable ps' c' w' numbers saved k m
         meetable = record {
-          here = given;
+          here = omega (arith, I.size-c);
           there = let r = first.room in let p = corner-low in let a = h.apart in omega arith;
           fresh = λ e. let r = room-new e in (record { first = held w' _ _ first; second = held w' _ _ second; third = held w' _ _ third; room = omega (arith, I.size-p, r.0) }, r.1);
         }

@@ -42,12 +42,9 @@ pub fn drop_gone(
     ensures { Dropped corners.old labels.old work.now corners.new labels.new into gone result }
 {
     let mut q: usize = 0;
-    let mut i: usize = 0;
-    while i < labels.len() {
+    for i in 0..labels.len() {
         move_triangle(corners, labels, into, i, q, work);
-        let stays = (work[gone + i] == 0) as usize;
-        q = q + stays;
-        i += 1;
+        q += usize::from(work[gone + i] == 0);
     }
     q
 }
@@ -57,10 +54,8 @@ pub fn save_points(points: &[f64], saved: usize, work: &mut [u32])
     requires { saved + length points.now * 2 ≤ length work.old }
     ensures { Saved points.now work.old work.new saved (length points.now) }
 {
-    let mut k: usize = 0;
-    while k < points.len() {
-        put_float(work, saved + k * 2, points[k]);
-        k += 1;
+    for (k, x) in points.iter().enumerate() {
+        put_float(work, saved + k * 2, *x);
     }
 }
 
@@ -88,6 +83,7 @@ fn meet_corner(
     ensures { Met points.old corners.old work.old points.new corners.new work.new numbers saved k met result }
 {
     let v = wide(corners[k]);
+    // A work word holds the number and whether there is one: 0, or one more.
     let m = wide(work[numbers + v]);
     if m > 0 {
         corners[k] = (m - 1) as u32;
@@ -111,10 +107,8 @@ pub fn number_corners(
     ensures { Numbered points.old corners.old work.old points.new corners.new work.new numbers result }
 {
     let mut met: usize = 0;
-    let mut k: usize = 0;
-    while k < corners.len() {
+    for k in 0..corners.len() {
         met = meet_corner(points, corners, numbers, saved, k, met, work);
-        k += 1;
     }
     met
 }

@@ -4,27 +4,33 @@
 
 ghost use Rattle.std.specs.Prelude.{◌+◌, ◌≤◌, length};
 ghost use Rattle.vectors.specs.Words.{count_of};
-ghost use Rattle.replay_check.specs.Replay.{onward};
 
 use std::io;
-use vectors::Listed;
+use vectors::{Element, Program, Replayed, Tally};
 
-// A vector that was replayed: the word after it, and whether the answer is the original's. Or none
-// that is whole and not too long.
-#[derive(Clone, Copy)]
-enum Replayed {
-    To(usize, bool),
-    No,
+// Calls of `lanovishel_check`.
+struct Check;
+
+impl Program for Check {
+    fn run(
+        text: &[u8],
+        k: usize,
+        points: &mut [f64],
+        corners: &mut [u32],
+        labels: &mut [u8],
+        work: &mut [u32],
+    ) -> Option<Replayed> {
+        let next = k + 7;
+        if next > vectors::count(text) {
+            return None;
+        }
+        let agreed = agrees(text, k, points, corners, labels, work);
+        Some(Replayed { next, agreed })
+    }
 }
 
-#[derive(Clone, Copy)]
-struct Tally {
-    vectors: u64,
-    same: u64,
-}
-
-// Whether a call is answered as the words from k on say: number, place, quality, volume. And whether
-// it leaves the work words as it must.
+// Whether a call on words that were lent is answered as the words from k on say: number, place, quality,
+// volume.
 fn agrees(
     text: &[u8],
     k: usize,
@@ -37,7 +43,6 @@ fn agrees(
 {
     let mut numbers = [1.5f64, -1.5f64];
     let mut place = [10u32, 11u32];
-    vectors::lend(work);
     let number = lanovishel::lanovishel_check(
         points,
         corners,
@@ -46,90 +51,14 @@ fn agrees(
         &mut numbers,
         &mut place,
     );
-    if number != vectors::word(text, k) {
-        return false;
-    }
-    if place[0] != vectors::word(text, k + 1) {
-        return false;
-    }
-    if place[1] != vectors::word(text, k + 2) {
-        return false;
-    }
-    if !vectors::same(numbers[0], vectors::float(text, k + 3)) {
-        return false;
-    }
-    if !vectors::same(numbers[1], vectors::float(text, k + 5)) {
-        return false;
-    }
-    let needed = corners.len() / 3 * 32 + points.len() / 3 * 16;
-    vectors::cleared(work, vectors::clears(number, needed))
-}
-
-// Replays the vector at word k.
-fn vector(text: &[u8], k: usize) -> Replayed
-    ensures { onward text.now k result }
-{
-    let mut points = [0.0f64; 96];
-    let mut corners = [0u32; 96];
-    let mut labels = [0u8; 32];
-    let mut work = [0u32; 2048];
-    let Listed::Is(n, a) = vectors::floats(text, k, &mut points) else {
-        return Replayed::No;
-    };
-    let Listed::Is(m, b) = vectors::words(text, a, &mut corners) else {
-        return Replayed::No;
-    };
-    let Listed::Is(l, c) = vectors::bytes(text, b, &mut labels) else {
-        return Replayed::No;
-    };
-    let w = vectors::word(text, c) as usize;
-    if w > 2048 {
-        return Replayed::No;
-    }
-    let next = c + 8;
-    if next > vectors::count(text) {
-        return Replayed::No;
-    }
-    let agreed = agrees(
-        text,
-        c + 1,
-        &points[..n],
-        &corners[..m],
-        &labels[..l],
-        &mut work[..w],
-    );
-    Replayed::To(next, agreed)
-}
-
-fn one(agreed: bool) -> u64
-    ensures { result ≤ 1 }
-{
-    if agreed { 1 } else { 0 }
-}
-
-// Replays the vectors of the text, one after the other.
-fn replay(text: &[u8]) -> Tally {
-    let mut tally = Tally {
-        vectors: 0,
-        same: 0,
-    };
-    let mut k: usize = 0;
-    while k < vectors::count(text) {
-        let Replayed::To(next, agreed) = vector(text, k) else {
-            return tally;
-        };
-        tally = Tally {
-            vectors: tally.vectors + 1,
-            same: tally.same + one(agreed),
-        };
-        k = next;
-    }
-    tally
+    vectors::ends_so(text, k, number, &place, points, corners, work)
+        && numbers[0].same(f64::at(text, k + 3))
+        && numbers[1].same(f64::at(text, k + 5))
 }
 
 fn main(rt: HostRuntime) -> io::Result<()> {
     let mut text = [0u8; 65536];
     let n = input::read_full(&mut rt.stdin(), &mut text)?;
-    let Tally { vectors, same } = replay(&text[..n]);
+    let Tally { vectors, same } = vectors::replay::<Check>(&text[..n]);
     println!(rt; "{vectors} vectors, {same} as the original answers")
 }

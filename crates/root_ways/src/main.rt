@@ -6,7 +6,6 @@ ghost use Rattle.std.specs.Prelude.{◌-◌, ◌^◌, ◌≤◌, ◌<◌};
 
 use float::guess::{guess, nearest_of_three};
 use std::io;
-use std::io::Write;
 
 // The number after x in Marsaglia's xorshift generator with the shifts 13, 7 and 17.
 fn after(x: u64) -> u64 {
@@ -27,51 +26,45 @@ fn rooted(bits: u64) -> u64
     m
 }
 
-// What decides: 0 the guess, 1 the number above it, 2 the number below it, 3 the digits.
-fn way(wide: u64) -> u64
+#[derive(Clone, Copy, Debug, PartialEq, Eq)]
+enum Way {
+    Guess,
+    Above,
+    Below,
+    Digits,
+}
+
+// What decides: the guess, the number above it, the number below it, or the digits.
+fn decider(wide: u64) -> Way
     requires { (2 ^ 52 ≤ wide) × (wide ≤ 2 ^ 54 - 2) }
 {
     let g = guess(wide);
-    let r = nearest_of_three(g, wide);
-    if r == 0 {
-        return 3;
+    match nearest_of_three(g, wide) {
+        None => Way::Digits,
+        Some(r) if r == g => Way::Guess,
+        Some(r) if r > g => Way::Above,
+        Some(_) => Way::Below,
     }
-    if r == g {
-        return 0;
-    }
-    if r > g { 1 } else { 2 }
-}
-
-fn one_if(k: bool) -> u64
-    ensures { result ≤ 1 }
-{
-    if k { 1 } else { 0 }
 }
 
 // How many of the numbers from x on are decided so.
-fn decided(mut x: u64, numbers: u64, by: u64) -> u64 {
-    let mut count: u64 = 0;
-    let mut i: u64 = 0;
-    while i < numbers {
-        count += one_if(way(rooted(x)) == by);
+fn decided(mut x: u64, numbers: u64, by: Way) -> u64 {
+    let mut count = 0;
+    for _ in 0..numbers {
+        if decider(rooted(x)) == by {
+            count += 1;
+        }
         x = after(x);
-        i += 1;
     }
     count
 }
 
-fn print_count(rt: &impl Print, before: &[u8], x: u64, numbers: u64, by: u64) -> io::Result<()> {
-    io::writer(rt).write_all(before)?;
-    let count = decided(x, numbers, by);
-    print!(rt; "{count}")
-}
-
 fn print_row(rt: &impl Print, x: u64, numbers: u64) -> io::Result<()> {
-    print_count(rt, b"", x, numbers, 0)?;
-    print_count(rt, b" ", x, numbers, 1)?;
-    print_count(rt, b" ", x, numbers, 2)?;
-    print_count(rt, b" ", x, numbers, 3)?;
-    println!(rt; "")
+    let guess = decided(x, numbers, Way::Guess);
+    let above = decided(x, numbers, Way::Above);
+    let below = decided(x, numbers, Way::Below);
+    let digits = decided(x, numbers, Way::Digits);
+    println!(rt; "{guess} {above} {below} {digits}")
 }
 
 fn main(rt: HostRuntime) -> io::Result<()> {

@@ -3,7 +3,7 @@ use Prim.Native.Nat.{ℕ, suc, ◌+◌, ◌*◌, ◌-◌, ◌/◌, ◌%◌, ◌<
 use native.Mathlib.Numerals.{add-one}
 use native.Mathlib.Omega.{arith}
 use mathlib.Core.Path.{◌≡◌, refl, sym, ap, ap₂, ◌∙◌, subst}
-use mathlib.Core.Logic.{◌⊎◌, inl, ⊎_elim}
+use mathlib.Core.Logic.{inl, ⊎_elim}
 use mathlib.Core.Bool.{Bool, true, false, ◌&&◌, ◌||◌, cond}
 use mathlib.Core.List.{List, [], ◌∷◌, ◌++◌, map, append-nil, append_assoc}
 use lib.Dec.{T, eqb}
@@ -19,11 +19,9 @@ use Rattle.float.specs.Point.{plus, difference, dotted}
 use Rattle.field.specs.Number.{plus_zero}
 use Rattle.field.specs.Shape.{shape}
 use Rattle.surface.specs.Triangle.{Tri, tri, triangles}
-use Rattle.surface.specs.Closed.{one}
 use Rattle.surface.specs.Edit.{place}
 use Rattle.surface.proofs.Flat.{place-triangles}
 use Rattle.halfedges.specs.Place.{nx, at}
-use Rattle.halfedges.specs.Free.{Free}
 use Rattle.halfedges.proofs.Free.{free_none, free_wider, free_more, free_set}
 use Rattle.halfedges.proofs.Fine.{nx-below}
 use Rattle.halfedges.proofs.Turns.{same_or}
@@ -36,14 +34,6 @@ use Rattle.oracle.specs.Candidates.{chosen, total, length_bits}
 use Rattle.scores.specs.Words.{put_at, Kept}
 use Rattle.scores.proofs.Words.{kept_bits, put-length, put_other, put-kept, put_keeps}
 use Rattle.scores.specs.Measures.{Pointed, Lists, score_at, Filled, side_at, Measurable, Measured, Marked, picks, up_from, Picked}
-
-pub byte_one : (b : Bool) → bool_byte b ≡ one b
-byte_one true = refl
-byte_one false = refl
-
-pub byte_small : (b : Bool) → bool_byte b ≤ 1
-byte_small true = omega arith
-byte_small false = omega arith
 
 -- ---- the functions without loops
 
@@ -224,7 +214,7 @@ chosen-next f i count l =
     ap (λ (n : ℕ). chosen f (up_from i n)) e ∙ ap (λ (n : ℕ). cond (f i) (i ∷ chosen f (up_from n (count - (i + 1)))) (chosen f (up_from n (count - (i + 1))))) (sym (add-one i))
 
 module _ (f : ℕ → Bool) (w w' : List ℕ) (count items n i : ℕ) (room : items + count ≤ length w) (I : Picking f w w' count items n i) where
-  pub pick_turn : i < count → (b : Bool) → b ≡ f i → Picking f w (set w' (items + n) i) count items (n + bool_byte b) (i + 1)
+  pick_turn : i < count → (b : Bool) → b ≡ f i → Picking f w (set w' (items + n) i) count items (n + bool_byte b) (i + 1)
   pick_turn l b e = record {
     short = omega arith;
     few = let g = I.few in go b;
@@ -252,6 +242,9 @@ module _ (f : ℕ → Bool) (w w' : List ℕ) (count items n i : ℕ) (room : it
           let z : n + 0 ≡ n = omega arith in
           ap (λ (x : List ℕ). x ++ rest) (ap (part (set w' (items + n) i) items) z ∙ part-past w' items n i)
           ∙ ap (λ (x : List ℕ). part w' items n ++ x) (ap (λ (x : Bool). cond x (i ∷ rest) rest) q ∙ sym (chosen-next f i count l))
+
+  pub pick_turned : i < count → (b : Bool) (m : ℕ) → m ≡ bool_byte b → b ≡ f i → Picking f w (set w' (items + n) i) count items (n + m) (i + 1)
+  pick_turned l b m g e = subst (λ (k : ℕ). Picking f w (set w' (items + n) i) count items (n + k) (i + 1)) (sym g) (pick_turn l b e)
 
   pub pick_ends : count ≤ i → Picked f w w' count items n
   unfolding chosen up_from

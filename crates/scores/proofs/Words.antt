@@ -9,7 +9,7 @@ use mathlib.Core.Logic.{◌⊎◌, inl, inr}
 use lib.Dec.{T}
 use lib.ListN.{length, set, length-set}
 use lib.Seq.{get_or-set_same, get_or-set_other}
-use lib.Ieee.{Float, nan, inf, fin, binary64, div, to_bits, of_bits, fits, is_nan, nan_bits}
+use lib.Ieee.{Float, nan, inf, fin, binary64, to_bits, of_bits, fits, is_nan, nan_bits}
 use lib.Ieee.Bits.{of_bits-to_bits, nan_bits_is}
 use Rattle.halfedges.specs.Place.{at}
 use Rattle.scores.specs.Words.{high, low, put_at, float_at, Kept, Held}
@@ -55,15 +55,7 @@ pub put_nan : (w : List ℕ) (i : ℕ) (x : Float) → x ≡ nan → set (set w 
 unfolding to_bits
 put_nan w i x e = ap (put_at w i) (sym e)
 
-pub zero_by_zero : div binary64 (of_bits binary64 0) (of_bits binary64 0) ≡ nan
-unfolding div of_bits
-zero_by_zero = refl
-
-of_nan : of_bits binary64 0x7ff8_0000_0000_0000 ≡ nan
-unfolding of_bits
-of_nan = refl
-
-nan_is : (x : Float) → is_nan x ≡ true → x ≡ nan
+pub nan_is : (x : Float) → is_nan x ≡ true → x ≡ nan
 unfolding is_nan
 nan_is nan e = refl
 nan_is (inf s) e = absurd (false≢true e)
@@ -77,8 +69,8 @@ module _ (w : List ℕ) (i x y b : ℕ) (h : Held w i) (p : x ≡ at w i) (q : y
   pub got : of_bits binary64 b ≡ float_at w i
   got = ap (of_bits binary64) (e ∙ ap₂ (λ (m n : ℕ). m * 4294967296 + n) p q)
 
-  pub got_nan : b ≡ 0x7ff8_0000_0000_0000 → div binary64 (of_bits binary64 0) (of_bits binary64 0) ≡ float_at w i
-  got_nan z = zero_by_zero ∙ sym of_nan ∙ ap (of_bits binary64) (sym z) ∙ got
+  pub got_nan : b ≡ 0x7ff8_0000_0000_0000 → of_bits binary64 0x7ff8_0000_0000_0000 ≡ float_at w i
+  got_nan z = ap (of_bits binary64) (sym z) ∙ got
 
   pub got_number : (b ≡ 0x7ff8_0000_0000_0000 → ⊥) → T (not (nan_bits binary64 b))
   got_number z = go (is_nan h.value) refl

@@ -6,12 +6,12 @@ ghost use Rattle.surface.specs.Triangle.{tri};
 ghost use Rattle.surface.specs.Closed.{one};
 ghost use Rattle.halfedges.specs.Place.{nx, at};
 ghost use Rattle.oracle.specs.Scene as Scene;
-ghost use Rattle.oracle.specs.Scene.{scene, point_at};
+ghost use Rattle.oracle.specs.Scene.{scene};
 ghost use Rattle.scores.specs.Words.{put_at, float_at, Held};
 ghost use Rattle.scores.specs.Measures.{Pointed, Lists, score_at, weak_at, Filled, Measurable, Measured, Marked, picks, Picked};
 
-use field::shape;
-use float::Point;
+use field::Terms;
+use float::point_at;
 use halfedges::{after, wide};
 
 // Keeps a float in the two words from `at` on, by its bits. A NaN is kept as the one NaN of the logic.
@@ -19,7 +19,7 @@ pub fn put_float(work: &mut [u32], at: usize, x: f64)
     requires { at + 1 < length work.old }
     ensures { work.new ≡ put_at work.old at x }
 {
-    if x != x {
+    if x.is_nan() {
         work[at] = 0x7ff8_0000;
         work[at + 1] = 0;
         return;
@@ -36,48 +36,21 @@ pub fn get_float(work: &[u32], at: usize) -> f64
     requires { Held work.now at }
     ensures { result ≡ float_at work.now at }
 {
-    let high = long(work[at]);
-    let low = long(work[at + 1]);
+    let high = u64::from(work[at]);
+    let low = u64::from(work[at + 1]);
     let b = high * 4294967296 + low;
     if b == 0x7ff8_0000_0000_0000 {
-        return 0.0 / 0.0;
+        return f64::NAN;
     }
     f64::from_bits(b)
 }
 
-fn long(x: u32) -> u64
-    ensures { result ≡ x }
-{
-    x as u64
-}
-
-pub fn point_at(points: &[f64], v: usize) -> Point
-    requires { v * 3 + 2 < length points.now }
-    ensures { result ≡ point_at points.now v }
-{
-    Point {
-        x: points[v * 3],
-        y: points[v * 3 + 1],
-        z: points[v * 3 + 2],
-    }
-}
-
 // The shape of the triangle a, b, c with a label.
-pub fn score(
-    points: &[f64],
-    coefficients: &[f64],
-    powers: &[u32],
-    a: usize,
-    b: usize,
-    c: usize,
-    label: u8,
-) -> f64
+pub fn score(points: &[f64], terms: &Terms, a: usize, b: usize, c: usize, label: u8) -> f64
     requires { (a * 3 + 2 < length points.now) × (b * 3 + 2 < length points.now) × (c * 3 + 2 < length points.now) }
-    ensures { result ≡ Scene.score (scene points.now coefficients.now powers.now) (tri a b c) label }
+    ensures { result ≡ Scene.score (scene points.now terms.now.coefficients.now terms.now.powers.now) (tri a b c) label }
 {
-    shape(
-        coefficients,
-        powers,
+    terms.shape(
         point_at(points, a),
         point_at(points, b),
         point_at(points, c),
@@ -86,22 +59,14 @@ pub fn score(
 }
 
 // The shape of the triangle i of a list.
-pub fn score_at(
-    points: &[f64],
-    corners: &[u32],
-    labels: &[u8],
-    coefficients: &[f64],
-    powers: &[u32],
-    i: usize,
-) -> f64
+pub fn score_at(points: &[f64], corners: &[u32], labels: &[u8], terms: &Terms, i: usize) -> f64
     requires lists { Lists points.now corners.now labels.now }
     requires i_in_bounds { i < length labels.now }
-    ensures { result ≡ score_at (scene points.now coefficients.now powers.now) corners.now labels.now i }
+    ensures { result ≡ score_at (scene points.now terms.now.coefficients.now terms.now.powers.now) corners.now labels.now i }
 {
     score(
         points,
-        coefficients,
-        powers,
+        terms,
         wide(corners[i * 3]),
         wide(corners[i * 3 + 1]),
         wide(corners[i * 3 + 2]),
@@ -132,20 +97,17 @@ pub fn mark_weak(
     points: &[f64],
     corners: &[u32],
     labels: &[u8],
-    coefficients: &[f64],
-    powers: &[u32],
+    terms: &Terms,
     marks: usize,
     work: &mut [u32],
 )
     requires lists { Lists points.now corners.now labels.now }
     requires labels_in_bounds { marks + length labels.now ≤ length work.old }
-    ensures { Filled (λ (i : ℕ). one (weak_at (scene points.now coefficients.now powers.now) corners.now labels.now i)) marks work.old work.new (length labels.now) }
+    ensures { Filled (λ (i : ℕ). one (weak_at (scene points.now terms.now.coefficients.now terms.now.powers.now) corners.now labels.now i)) marks work.old work.new (length labels.now) }
 {
-    let mut i: usize = 0;
-    while i < labels.len() {
-        let q = score_at(points, corners, labels, coefficients, powers, i);
-        work[marks + i] = (q < 0.4) as u32;
-        i += 1;
+    for i in 0..labels.len() {
+        let q = score_at(points, corners, labels, terms, i);
+        work[marks + i] = u32::from(q < 0.4);
     }
 }
 
@@ -162,13 +124,11 @@ pub fn measure_sides(
     ensures { Measured points.now corners.now work.old work.new sides count keys result }
 {
     let mut sum = 0.0;
-    let mut i: usize = 0;
-    while i < count {
+    for i in 0..count {
         let k = wide(work[sides + i]);
         let q = side_squared(points, corners, k);
         put_float(work, keys + 2 * i, q);
         sum = sum + q;
-        i += 1;
     }
     sum
 }
@@ -216,13 +176,11 @@ pub fn pick_candidates(
     ensures { Picked (λ (i : ℕ). picks points.now corners.now twins marks limit work.old (at work.old (sides + i))) work.old work.new count items result }
 {
     let mut n: usize = 0;
-    let mut i: usize = 0;
-    while i < count {
+    for i in 0..count {
         let k = wide(work[sides + i]);
-        let yes = is_candidate(points, corners, twins, marks, limit, k, work) as usize;
+        let yes = is_candidate(points, corners, twins, marks, limit, k, work);
         work[items + n] = i as u32;
-        n = n + yes;
-        i += 1;
+        n += usize::from(yes);
     }
     n
 }

@@ -1,18 +1,23 @@
 -- Which edition a text can be of, by its first byte. Assumes nothing.
-use mathlib.Core.Path.{◌≡◌, sym, ap, ◌∙◌}
+use mathlib.Core.Path.{◌≡◌, sym, ap, ◌∙◌, subst}
 use mathlib.Core.Logic.{⊎_elim}
-use mathlib.Core.List.{List, ◌∷◌, nil≢cons}
-use Prim.Native.Nat.{ℕ}
+use mathlib.Core.List.{List, ◌∷◌}
+use Prim.Native.Nat.{ℕ, ◌≤◌}
 use native.Mathlib.Omega.{arith}
-use lib.ListN.{length, get_or, drop_of_length-le}
+use lib.ListN.{get_or}
+use Rattle.sheet.specs.Edition.{IsEdition, edition_number, rules_of}
 use Rattle.sheet.specs.Stages.{TellsEdition}
+use Rattle.sheet.specs.declared.Edition as declared
+use Rattle.sheet.specs.declared.Edition.TheVariants.{First, Second}
 use Rattle.sheet.proofs.Texts.{starts}
+use Rattle.sheet.proofs.InUnit.{most-small}
 
-pub told_none : (T : List ℕ) → length T ≡ 0 → TellsEdition T 1
-told_none T h = record {
-  known = (omega arith, omega arith);
-  only = λ n k s q. let f = starts n k s in absurd (nil≢cons (sym (drop_of_length-le T {i = 0} (omega arith)) ∙ q ∙ f.2));
-}
+pub is_edition : (e : declared.Edition) → IsEdition (edition_number e)
+is_edition First = (omega arith, omega arith)
+is_edition Second = (omega arith, omega arith)
+
+pub most_of : (e : declared.Edition) {m : ℕ} → m ≡ (rules_of e).most → m ≤ 2097152
+most_of e h = subst (λ (k : ℕ). k ≤ 2097152) (sym h) (most-small (edition_number e) (is_edition e))
 
 first-is : (T : List ℕ) (b : ℕ) (r : List ℕ) → T ≡ b ∷ r → get_or T 0 0 ≡ b
 first-is T b r q = ap (λ (l : List ℕ). get_or l 0 0) q

@@ -3,12 +3,12 @@ use mathlib.Core.Path.{◌≡◌, subst}
 use mathlib.Core.List.{List}
 use Prim.Native.Nat.{ℕ, ◌≤◌}
 use lib.IntN.{ℤ}
-use Rattle.sheet.specs.Edition.{edition}
+use Rattle.sheet.specs.Edition.{edition, edition_number}
 use Rattle.sheet.specs.Contents.{contents, Says}
 use Rattle.sheet.specs.Contents as Contents
 use Rattle.sheet.specs.Stages.{IsSheet, NoSheet, TellsEdition, IsFound, found_is}
-use Rattle.sheet.specs.declared.Found as declared
-use Rattle.sheet.specs.declared.Found.TheVariants as found
+use Rattle.sheet.specs.declared.Found.{Found}
+use Rattle.std.specs.Prelude.{Option, Some, None}
 use Rattle.sheet.proofs.Contents.{contents-laws}
 
 module _ (input : List ℕ) (number : ℕ) (told : TellsEdition input number) where
@@ -26,19 +26,19 @@ module _ (input : List ℕ) (number : ℕ) (told : TellsEdition input number) wh
     label-list = is.label-list;
   }
 
-module _ (input : List ℕ) (z z' : List ℤ) (c c' l l' : List ℕ) (r : declared.Found) (h : found_is input z z' c c' l l' r) where
-  pub nothing_said : r ≡ found.No → contents input ≡ Contents.nothing
+module _ (input : List ℕ) (z z' : List ℤ) (c c' l l' : List ℕ) (r : Option Found) (h : found_is input z z' c c' l l' r) where
+  pub nothing_said : r ≡ None → contents input ≡ Contents.nothing
   nothing_said e = subst (found_is input z z' c c' l l') e h
 
-  module _ (number n m : ℕ) (e : r ≡ found.Is number n m) where
-    pub is_found : IsFound input number n m z z' c c' l l'
+  module _ (found : Found) (e : r ≡ Some found) where
+    pub is_found : IsFound input (edition_number found.edition) found.counts.points found.counts.triangles z z' c c' l l'
     is_found = subst (found_is input z z' c c' l l') e h
 
-    pub sheet-said : Says input number is_found.sheet
-    sheet-said = contents-laws.says input number is_found.sheet is_found.said
+    pub sheet-said : Says input (edition_number found.edition) is_found.sheet
+    sheet-said = contents-laws.says input (edition_number found.edition) is_found.sheet is_found.said
 
-    pub few-points : n ≤ 128
+    pub few-points : found.counts.points ≤ 128
     few-points = subst (λ (k : ℕ). k ≤ 128) is_found.n-points sheet-said.in_range.points
 
-    pub few-triangles : m ≤ 256
+    pub few-triangles : found.counts.triangles ≤ 256
     few-triangles = subst (λ (k : ℕ). k ≤ 256) is_found.m-triangles sheet-said.in_range.triangles

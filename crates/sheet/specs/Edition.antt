@@ -1,6 +1,10 @@
 -- The two editions of the sheet (document 01, document 02's F-8): the unit of the coordinates, their range, and what stands before the counts. Definitions only.
-use Rattle.std.specs.Prelude.{ℕ, ◌≤◌, Bool, true, false, ◌&&◌, List, [], ◌∷◌, ◌++◌, eqb, leb}
+use Rattle.std.specs.Prelude.{ℕ, ◌≡◌, ◌≤◌, Bool, true, false, ◌&&◌, List, [], ◌∷◌, ◌++◌, eqb, leb, Result, MatchResult}
 use Rattle.sheet.specs.Text.{bytes, line}
+use Rattle.sheet.specs.declared.Edition as declared
+use Rattle.sheet.specs.declared.Edition.TheVariants.{First, Second}
+use Rattle.sheet.specs.declared.Refusal.{Refusal}
+use Rattle.sheet.specs.declared.Refusal.TheVariants.{NoSheet}
 
 -- coordinates are whole numbers of 1/unit, within ±most; a sheet begins with `opening`, and its counts follow
 pub record Edition : Type 0 where
@@ -26,3 +30,16 @@ is_edition? number = leb 1 number && leb number 2
 -- the edition with that number (no other number's is asked for)
 abbrev pub edition : ℕ → Edition
 edition number = elim (eqb number 2) [ true ↦ second_edition | false ↦ first_edition ]
+
+-- ---- the editions as the functions of `src/` have them
+
+abbrev pub edition_number : declared.Edition → ℕ
+edition_number First = 1
+edition_number Second = 2
+
+abbrev pub rules_of : declared.Edition → Edition
+rules_of e = edition (edition_number e)
+
+-- the edition with that number, or a refusal where no edition has it
+abbrev pub NamesEdition : ℕ → Result declared.Edition Refusal → Type 0
+NamesEdition number r = MatchResult r (λ e. edition_number e ≡ number) (λ why. (why ≡ NoSheet) × (IsEdition number → ⊥))

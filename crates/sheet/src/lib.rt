@@ -2,219 +2,242 @@
 // sheet is, and its text, is `specs/Sheet.antt`; what each function finds is `specs/Stages.antt`.
 #![tactic(auto)]
 
-ghost use Rattle.std.specs.Prelude.{◌≡◌, ◌+◌, ◌*◌, ◌≤◌, ◌<◌, ◌^◌, length, replicate, pos};
-ghost use Rattle.sheet.specs.Text.{minus};
-ghost use Rattle.sheet.specs.Edition.{edition};
-ghost use Rattle.sheet.specs.Stages.{word_is, number_is, coordinate_is, negative_is, point_is, points_is, triangle_is, triangles_is, head_is, sheet_is, TellsEdition, found_is};
+ghost use Rattle.std.specs.Prelude.{◌≡◌, ◌+◌, ◌*◌, ◌≤◌, ◌<◌, ◌^◌, length};
+ghost use Rattle.sheet.specs.Edition.{edition_number, rules_of, NamesEdition};
+ghost use Rattle.sheet.specs.Refusals.{refusal_number};
+ghost use Rattle.sheet.specs.Stages.{word_is, number_is, coordinate_is, point_is, points_is, triangle_is, triangles_is, head_is, sheet_is, TellsEdition, found_is};
 
-// The place after what was read, or that it does not stand there.
-#[derive(Clone, Copy)]
-enum Past {
-    At(usize),
-    No,
+// Why there is no sheet, or none in the edition asked for.
+#[derive(Clone, Copy, Debug, PartialEq, Eq)]
+pub enum Refusal {
+    NoSheet,
+    NoRoom,
+    Inexact,
+}
+
+impl Refusal {
+    // The number that a call answers.
+    pub fn number(self) -> u32
+        ensures { result ≡ refusal_number self }
+    {
+        match self {
+            Refusal::NoSheet => 16,
+            Refusal::NoRoom => 35,
+            Refusal::Inexact => 38,
+        }
+    }
+}
+
+#[derive(Clone, Copy, Debug, PartialEq, Eq)]
+pub enum Edition {
+    First,
+    Second,
+}
+
+impl Edition {
+    // Coordinates are whole numbers of 1/unit.
+    pub fn unit(self) -> u32
+        ensures { result ≡ (rules_of self).unit }
+    {
+        match self {
+            Edition::First => 1024,
+            Edition::Second => 65536,
+        }
+    }
+
+    // They are within ±most.
+    pub fn most(self) -> u32
+        ensures { result ≡ (rules_of self).most }
+    {
+        match self {
+            Edition::First => 32768,
+            Edition::Second => 2097152,
+        }
+    }
+
+    // What stands before the counts.
+    pub fn opening(self) -> &'static [u8]
+        ensures { result.now ≡ (rules_of self).opening }
+    {
+        match self {
+            Edition::First => b"points triangles\n",
+            Edition::Second => b"edition points triangles\n2 ",
+        }
+    }
+}
+
+impl TryFrom<u32> for Edition {
+    type Error = Refusal;
+
+    ghost try_from_gives = { NamesEdition };
+
+    fn try_from(number: u32) -> Result<Self, Refusal> {
+        match number {
+            1 => Ok(Edition::First),
+            2 => Ok(Edition::Second),
+            _ => Err(Refusal::NoSheet),
+        }
+    }
+}
+
+// How many points and triangles a sheet has.
+#[derive(Clone, Copy, Debug, PartialEq, Eq)]
+pub struct Counts {
+    pub points: usize,
+    pub triangles: usize,
+}
+
+// A sheet that was found.
+#[derive(Clone, Copy, Debug, PartialEq, Eq)]
+pub struct Found {
+    pub edition: Edition,
+    pub counts: Counts,
 }
 
 // A number that was read, and the place after it and the byte that ends it.
 #[derive(Clone, Copy)]
-enum Numeral {
-    Is(u64, usize),
-    No,
+struct Numeral {
+    value: u64,
+    next: usize,
 }
 
-// The counts of points and of triangles, and the place of the first point.
+// The counts that were read, and the place of the first point.
 #[derive(Clone, Copy)]
-enum Counted {
-    Is(usize, usize, usize),
-    No,
+struct Counted {
+    counts: Counts,
+    next: usize,
 }
 
-// The counts of points and of triangles of a sheet whose numbers fill the lists.
-#[derive(Clone, Copy)]
-enum Filled {
-    Is(usize, usize),
-    No,
-}
+// (No reader with a place in it: what is read is told by the place alone, and each contract then speaks of
+// one place more.)
 
-// The edition of a sheet, and the counts of its points and of its triangles.
-#[derive(Clone, Copy)]
-pub enum Found {
-    Is(u32, usize, usize),
-    No,
-}
-
-// The word, at a place of the text.
-fn word(text: &[u8], at: usize, w: &[u8]) -> Past
+// The place after the word, where it stands at a place of the text.
+fn word(text: &[u8], at: usize, w: &[u8]) -> Option<usize>
     ensures { word_is text.now at w.now result }
 {
-    let mut k = 0;
     let mut i = at;
-    while k < w.len() {
-        if i >= text.len() {
-            return Past::No;
-        }
-        if text[i] != w[k] {
-            return Past::No;
+    for b in w {
+        if text.get(i) != Some(b) {
+            return None;
         }
         i += 1;
-        k += 1;
     }
-    Past::At(i)
+    Some(i)
 }
 
 // A number up to `most`, at a place of the text, ended by the byte `end`.
-fn number(text: &[u8], at: usize, most: u64, end: u8) -> Numeral
+fn number(text: &[u8], at: usize, most: u64, end: u8) -> Option<Numeral>
     requires { (most < 2 ^ 32) × (end < 45) }
     ensures { number_is text.now at most end result }
 {
-    if at >= text.len() {
-        return Numeral::No;
+    let first = *text.get(at)?;
+    if !first.is_ascii_digit() {
+        return None;
     }
-    let first = text[at];
-    if first < 48 {
-        return Numeral::No;
-    }
-    if first > 57 {
-        return Numeral::No;
-    }
-    let mut value = wide(first - 48);
-    let mut i = at + 1;
-    while i < text.len() {
+    let mut value = u64::from(first - b'0');
+    for i in at + 1..text.len() {
         let b = text[i];
         if value > most {
-            return Numeral::No;
+            return None;
         }
         if b == end {
-            return Numeral::Is(value, i + 1);
+            return Some(Numeral { value, next: i + 1 });
         }
-        if b < 48 {
-            return Numeral::No;
-        }
-        if b > 57 {
-            return Numeral::No;
+        if !b.is_ascii_digit() {
+            return None;
         }
         if value == 0 {
-            return Numeral::No;
+            return None;
         }
-        value = value * 10 + wide(b - 48);
-        i += 1;
+        value = value * 10 + u64::from(b - b'0');
     }
-    Numeral::No
+    None
 }
 
-fn wide(b: u8) -> u64
-    ensures { result ≡ b }
+// A coordinate of the edition, at a place of the text, ended by the byte `end`: it is stored at k, and the
+// place after it is given.
+fn coordinate(
+    text: &[u8],
+    at: usize,
+    edition: Edition,
+    end: u8,
+    k: usize,
+    coordinates: &mut [i32],
+) -> Option<usize>
+    requires { (end < 45) × (k < length coordinates.old) }
+    ensures { coordinate_is text.now at (rules_of edition).most end k coordinates.old coordinates.new result }
 {
-    b as u64
-}
-
-// A coordinate within ±most, at a place of the text, ended by the byte `end`: it is stored at k.
-fn coordinate(text: &[u8], at: usize, most: u64, end: u8, k: usize, coordinates: &mut [i32]) -> Past
-    requires { (most < 2 ^ 31) × (end < 45) × (k < length coordinates.old) }
-    ensures { coordinate_is text.now at most end k coordinates.old coordinates.new result }
-{
-    if at >= text.len() {
-        return Past::No;
+    let most = u64::from(edition.most());
+    if *text.get(at)? == b'-' {
+        let n = number(text, at + 1, most, end)?;
+        if n.value == 0 {
+            return None;
+        }
+        coordinates[k] = -(n.value as i32);
+        return Some(n.next);
     }
-    if text[at] == 45 {
-        return negative(text, at + 1, most, end, k, coordinates);
-    }
-    let Numeral::Is(size, next) = number(text, at, most, end) else {
-        return Past::No;
-    };
-    let z = above(size);
-    coordinates[k] = z;
-    Past::At(next)
-}
-
-// The coordinate whose `-` stands before the place.
-fn negative(text: &[u8], at: usize, most: u64, end: u8, k: usize, coordinates: &mut [i32]) -> Past
-    requires { (most < 2 ^ 31) × (end < 45) × (k < length coordinates.old) }
-    ensures { negative_is text.now at most end k coordinates.old coordinates.new result }
-{
-    let Numeral::Is(size, next) = number(text, at, most, end) else {
-        return Past::No;
-    };
-    if size == 0 {
-        return Past::No;
-    }
-    let z = below(size);
-    coordinates[k] = z;
-    Past::At(next)
-}
-
-// The number of that size, and the one below zero.
-pub fn above(size: u64) -> i32
-    requires { size < 2 ^ 31 }
-    ensures { result ≡ pos size }
-{
-    size as i32
-}
-
-pub fn below(size: u64) -> i32
-    requires { size < 2 ^ 31 }
-    ensures { result ≡ minus size }
-{
-    -(size as i32)
+    let n = number(text, at, most, end)?;
+    coordinates[k] = n.value as i32;
+    Some(n.next)
 }
 
 // A line of a point, at a place of the text: its coordinates are stored as the point k.
-fn point(text: &[u8], at: usize, most: u64, k: usize, coordinates: &mut [i32]) -> Past
-    requires { (most < 2 ^ 31) × (k * 3 + 2 < length coordinates.old) }
-    ensures { point_is text.now at most k coordinates.old coordinates.new result }
+fn point(
+    text: &[u8],
+    at: usize,
+    edition: Edition,
+    k: usize,
+    coordinates: &mut [i32],
+) -> Option<usize>
+    requires { k * 3 + 2 < length coordinates.old }
+    ensures { point_is text.now at (rules_of edition).most k coordinates.old coordinates.new result }
 {
     let p = k * 3;
-    let Past::At(i) = coordinate(text, at, most, 32, p, coordinates) else {
-        return Past::No;
-    };
-    let Past::At(j) = coordinate(text, i, most, 32, p + 1, coordinates) else {
-        return Past::No;
-    };
-    let Past::At(next) = coordinate(text, j, most, 10, p + 2, coordinates) else {
-        return Past::No;
-    };
-    Past::At(next)
+    let i = coordinate(text, at, edition, b' ', p, coordinates)?;
+    let j = coordinate(text, i, edition, b' ', p + 1, coordinates)?;
+    coordinate(text, j, edition, b'\n', p + 2, coordinates)
 }
 
-// The lines of the points, at a place of the text.
-fn all_points(text: &[u8], at: usize, most: u64, count: usize, coordinates: &mut [i32]) -> Past
-    requires { (most < 2 ^ 31) × (count * 3 ≤ length coordinates.old) }
-    ensures { points_is text.now at most count coordinates.old coordinates.new result }
+// The lines of the points, at a place of the text. (`all_triangles` is a twin: over a closure its contract
+// would be said at both calls.)
+fn all_points(
+    text: &[u8],
+    at: usize,
+    edition: Edition,
+    count: usize,
+    coordinates: &mut [i32],
+) -> Option<usize>
+    requires { count * 3 ≤ length coordinates.old }
+    ensures { points_is text.now at (rules_of edition).most count coordinates.old coordinates.new result }
 {
     let mut next = at;
-    let mut k = 0;
-    while k < count {
-        let Past::At(n) = point(text, next, most, k, coordinates) else {
-            return Past::No;
-        };
-        next = n;
-        k += 1;
+    for k in 0..count {
+        next = point(text, next, edition, k, coordinates)?;
     }
-    Past::At(next)
+    Some(next)
 }
 
 // A line of a triangle, at a place of the text: its corners and its label are stored as the triangle k.
-fn triangle(text: &[u8], at: usize, k: usize, corners: &mut [u32], labels: &mut [u8]) -> Past
+fn triangle(
+    text: &[u8],
+    at: usize,
+    k: usize,
+    corners: &mut [u32],
+    labels: &mut [u8],
+) -> Option<usize>
     requires { (k * 3 + 2 < length corners.old) × (k < length labels.old) }
     ensures { triangle_is text.now at k corners.old corners.new labels.old labels.new result }
 {
-    let Numeral::Is(a, i) = number(text, at, 0xffff_ffff, 32) else {
-        return Past::No;
-    };
-    let Numeral::Is(b, j) = number(text, i, 0xffff_ffff, 32) else {
-        return Past::No;
-    };
-    let Numeral::Is(c, l) = number(text, j, 0xffff_ffff, 32) else {
-        return Past::No;
-    };
-    let Numeral::Is(label, next) = number(text, l, 255, 10) else {
-        return Past::No;
-    };
+    let a = number(text, at, 0xffff_ffff, b' ')?;
+    let b = number(text, a.next, 0xffff_ffff, b' ')?;
+    let c = number(text, b.next, 0xffff_ffff, b' ')?;
+    let label = number(text, c.next, 255, b'\n')?;
     let p = k * 3;
-    corners[p] = a as u32;
-    corners[p + 1] = b as u32;
-    corners[p + 2] = c as u32;
-    labels[k] = label as u8;
-    Past::At(next)
+    corners[p] = a.value as u32;
+    corners[p + 1] = b.value as u32;
+    corners[p + 2] = c.value as u32;
+    labels[k] = label.value as u8;
+    Some(label.next)
 }
 
 // The lines of the triangles, at a place of the text.
@@ -224,132 +247,62 @@ fn all_triangles(
     count: usize,
     corners: &mut [u32],
     labels: &mut [u8],
-) -> Past
+) -> Option<usize>
     requires { (count * 3 ≤ length corners.old) × (count ≤ length labels.old) }
     ensures { triangles_is text.now at count corners.old corners.new labels.old labels.new result }
 {
     let mut next = at;
-    let mut k = 0;
-    while k < count {
-        let Past::At(n) = triangle(text, next, k, corners, labels) else {
-            return Past::No;
-        };
-        next = n;
-        k += 1;
+    for k in 0..count {
+        next = triangle(text, next, k, corners, labels)?;
     }
-    Past::At(next)
+    Some(next)
 }
 
 // What stands before the points: the opening, the counts, and a line of names.
-fn head(text: &[u8], opening: &[u8]) -> Counted
+fn head(text: &[u8], opening: &[u8]) -> Option<Counted>
     ensures { head_is opening.now text.now result }
 {
-    let Past::At(i) = word(text, 0, opening) else {
-        return Counted::No;
+    let i = word(text, 0, opening)?;
+    let n = number(text, i, 128, b' ')?;
+    let m = number(text, n.next, 256, b'\n')?;
+    let next = word(text, m.next, b"x y z\n")?;
+    let counts = Counts {
+        points: n.value as usize,
+        triangles: m.value as usize,
     };
-    let Numeral::Is(n, j) = number(text, i, 128, 32) else {
-        return Counted::No;
-    };
-    let Numeral::Is(m, k) = number(text, j, 256, 10) else {
-        return Counted::No;
-    };
-    let Past::At(next) = word(text, k, b"x y z\n") else {
-        return Counted::No;
-    };
-    Counted::Is(n as usize, m as usize, next)
+    Some(Counted { counts, next })
 }
 
-// The sheet in an edition, into lists that are long enough. Where the text is no sheet, they hold what
-// was read.
+// The counts of the sheet of that edition, whose numbers go into lists that are long enough.
+// Where the text is no sheet, they hold what was read.
 fn sheet(
     text: &[u8],
-    opening: &[u8],
-    most: u64,
+    edition: Edition,
     coordinates: &mut [i32],
     corners: &mut [u32],
     labels: &mut [u8],
-) -> Filled
-    requires { (most < 2 ^ 31) × (384 ≤ length coordinates.old) × (768 ≤ length corners.old) × (256 ≤ length labels.old) }
-    ensures { sheet_is opening.now most text.now coordinates.old coordinates.new corners.old corners.new labels.old labels.new result }
+) -> Option<Counts>
+    requires { (384 ≤ length coordinates.old) × (768 ≤ length corners.old) × (256 ≤ length labels.old) }
+    ensures { sheet_is (rules_of edition).opening (rules_of edition).most text.now coordinates.old coordinates.new corners.old corners.new labels.old labels.new result }
 {
-    let Counted::Is(n, m, at) = head(text, opening) else {
-        return Filled::No;
-    };
-    let Past::At(i) = all_points(text, at, most, n, coordinates) else {
-        return Filled::No;
-    };
-    let Past::At(j) = word(text, i, b"a b c label\n") else {
-        return Filled::No;
-    };
-    let Past::At(next) = all_triangles(text, j, m, corners, labels) else {
-        return Filled::No;
-    };
+    let start = head(text, edition.opening())?;
+    let i = all_points(text, start.next, edition, start.counts.points, coordinates)?;
+    let j = word(text, i, b"a b c label\n")?;
+    let next = all_triangles(text, j, start.counts.triangles, corners, labels)?;
     if next < text.len() {
-        return Filled::No;
+        return None;
     }
-    Filled::Is(n, m)
-}
-
-// An edition's unit is 1/unit, and its coordinates are within ±most.
-pub fn unit(number: u32) -> u32
-    ensures { result ≡ (edition number).unit }
-{
-    if number == 2 {
-        return 65536;
-    }
-    1024
-}
-
-pub fn most(number: u32) -> u32
-    ensures { result ≡ (edition number).most }
-{
-    if number == 2 {
-        return 2097152;
-    }
-    32768
+    Some(start.counts)
 }
 
 // The edition that the first byte tells.
-fn told(text: &[u8]) -> u32
-    ensures { TellsEdition text.now result }
+fn told(text: &[u8]) -> Edition
+    ensures { TellsEdition text.now (edition_number result) }
 {
-    if text.len() == 0 {
-        return 1;
+    if text.first() == Some(&b'e') {
+        return Edition::Second;
     }
-    if text[0] == b'e' {
-        return 2;
-    }
-    1
-}
-
-fn in_edition(
-    text: &[u8],
-    number: u32,
-    coordinates: &mut [i32],
-    corners: &mut [u32],
-    labels: &mut [u8],
-) -> Filled
-    requires { (384 ≤ length coordinates.old) × (768 ≤ length corners.old) × (256 ≤ length labels.old) }
-    ensures { sheet_is (edition number).opening (edition number).most text.now coordinates.old coordinates.new corners.old corners.new labels.old labels.new result }
-{
-    if number == 2 {
-        return sheet(
-            text,
-            b"edition points triangles\n2 ",
-            2097152,
-            coordinates,
-            corners,
-            labels,
-        );
-    }
-    sheet(
-        text,
-        b"points triangles\n",
-        32768,
-        coordinates,
-        corners,
-        labels,
-    )
+    Edition::First
 }
 
 // The whole numbers of a sheet of either edition, into lists that are long enough. Where the text is no
@@ -359,24 +312,11 @@ pub fn read_whole(
     coordinates: &mut [i32],
     corners: &mut [u32],
     labels: &mut [u8],
-) -> Found
+) -> Option<Found>
     requires { (384 ≤ length coordinates.old) × (768 ≤ length corners.old) × (256 ≤ length labels.old) }
     ensures { found_is text.now coordinates.old coordinates.new corners.old corners.new labels.old labels.new result }
 {
-    let number = told(text);
-    let Filled::Is(n, m) = in_edition(text, number, coordinates, corners, labels) else {
-        return Found::No;
-    };
-    Found::Is(number, n, m)
-}
-
-// Zeros, in the place of all that stood there.
-pub fn clear(bytes: &mut [u8])
-    ensures { bytes.new ≡ replicate (length bytes.old) 0 }
-{
-    let mut k = 0;
-    while k < bytes.len() {
-        bytes[k] = 0;
-        k += 1;
-    }
+    let edition = told(text);
+    let counts = sheet(text, edition, coordinates, corners, labels)?;
+    Some(Found { edition, counts })
 }

@@ -1,8 +1,7 @@
 -- The marks of the labels say whether one corner has all labels of another.
-use Prim.Native.Nat.{ℕ, ◌+◌, ◌*◌, ◌<◌}
+use Prim.Native.Nat.{ℕ, ◌<◌}
 use native.Mathlib.Omega.{arith}
-use mathlib.Core.Path.{◌≡◌, refl, sym, ap, ◌∙◌}
-use mathlib.Core.Logic.{◌⊎◌, inl, inr}
+use mathlib.Core.Path.{◌≡◌, refl, sym, ◌∙◌}
 use mathlib.Core.Bool.{Bool, true, false, false≢true}
 use mathlib.Core.List.{List}
 use Rattle.surface.specs.Triangle.{triangles}
@@ -10,23 +9,10 @@ use Rattle.surface.specs.Closed.{one}
 use Rattle.surface.specs.Label.{carries}
 use Rattle.history.specs.History.{covered}
 use Rattle.rounds.proofs.Loops.{covered_iff}
-use Rattle.halfedges.specs.Place.{at}
-use Rattle.halfedges.proofs.Turns.{same_or}
 use Rattle.chains.proofs.Common.{same_test}
 use Rattle.chains.specs.LabelMarks.{Labelled, Carried}
 use Rattle.chains.proofs.LabelMarks.{held_by}
 use Rattle.slivers.specs.Cover.{Covering, Covers}
-
-pub cover_turn : (w : List ℕ) (carried a b i : ℕ) → ((at w (carried + b * 8 + i) ≡ 0) ⊎ (at w (carried + a * 8 + i) ≡ 0 → ⊥)) → Covering w carried a b i → Covering w carried a b (i + 1)
-cover_turn w carried a b i h g l o n e = pick (same_or l i)
-  where
-    here : l ≡ i → (at w (carried + b * 8 + i) ≡ 0) ⊎ (at w (carried + a * 8 + i) ≡ 0 → ⊥) → ⊥
-    here z (inl q) = n (ap (λ (x : ℕ). at w (carried + b * 8 + x)) z ∙ q)
-    here z (inr q) = q (ap (λ (x : ℕ). at w (carried + a * 8 + x)) (sym z) ∙ e)
-
-    pick : (l ≡ i) ⊎ (l ≡ i → ⊥) → ⊥
-    pick (inl z) = here z h
-    pick (inr z) = g l (omega (arith, z)) n e
 
 -- with the marks of the labels it is the definition's test
 pub covers_covered : (c ls : List ℕ) (p : ℕ) (w : List ℕ) (carried a b : ℕ) (r : Bool) → a < p → b < p → Labelled c ls → Carried c ls p w carried → Covers w carried a b r → r ≡ covered (record { tris = triangles c; labels = ls }) a b

@@ -1,5 +1,5 @@
 -- The tests by the words are those of the pass; and the state after a candidate.
-use Prim.Native.Nat.{ℕ, zero, suc, ◌+◌, ◌<◌}
+use Prim.Native.Nat.{ℕ, ◌<◌}
 use mathlib.Core.Path.{◌≡◌, refl, sym, ap, ap₂, ◌∙◌, subst}
 use mathlib.Core.Logic.{◌⊎◌, inl, inr}
 use mathlib.Core.Bool.{Bool, true, false, not, ◌&&◌, cond}
@@ -31,17 +31,37 @@ use Rattle.oracle.specs.Rising.{side}
 use Rattle.oracle.specs.Slivers.{worst, fit, deciding, better, tetrahedron, accepts, pass, valid}
 use Rattle.slivers.specs.Touch.{is_touched}
 use Rattle.slivers.specs.Stand.{pair_of, Stands}
-use Rattle.slivers.specs.Decide.{step_of, way_of, may_at}
+use Rattle.slivers.specs.Decide.{step_of, way_of, attempted, keeping, may_at}
+use Rattle.slivers.specs.declared.Collapse.{Collapse}
+use Rattle.std.specs.Prelude.{Option, Some, None, Float}
 
 pub pass-more : (skip : Bool) (s : Scene) (p : Pair) (st : State) (l : List Side) (d : Side) → pass skip s p st (l ++ (d ∷ [])) ≡ step_of skip s p (pass skip s p st l) d
 unfolding pass
 pass-more skip s p st [] d = refl
 pass-more skip s p st (x ∷ l) d = pass-more skip s p (step_of skip s p st x) l d
 
-abbrev pub chosen : {A : Type 0} → ℕ → A → A → A → A
-chosen zero x y z = z
-chosen (suc zero) x y z = x
-chosen (suc (suc n)) x y z = y
+abbrev pub chosen : {A : Type 0} → Option Collapse → (ℕ → ℕ → A) → A → A
+chosen None f z = z
+chosen (Some e) f z = f e.keep e.remove
+
+-- either way keeps one end and removes the other
+pub way-ends : (a b : ℕ) (e : Collapse) (u v : Option Float) → way_of (keeping a b) (keeping b a) u v ≡ Some e → ((e.keep ≡ a) × (e.remove ≡ b)) ⊎ ((e.keep ≡ b) × (e.remove ≡ a))
+way-ends a b e u v q = go u v q
+  where
+    ends : (m : Collapse) → ◌≡◌ {A = Option Collapse} (Some m) (Some e) → (e.keep ≡ m.keep) × (e.remove ≡ m.remove)
+    ends m f =
+        let g : m ≡ e = cc in
+        (sym (ap (λ (z : Collapse). z.keep) g), sym (ap (λ (z : Collapse). z.remove) g))
+
+    pick : (t : Bool) → cond {A = Option Collapse} t (Some (keeping b a)) (Some (keeping a b)) ≡ Some e → ((e.keep ≡ a) × (e.remove ≡ b)) ⊎ ((e.keep ≡ b) × (e.remove ≡ a))
+    pick true f = inr (ends (keeping b a) f)
+    pick false f = inl (ends (keeping a b) f)
+
+    go : (o p : Option Float) → way_of (keeping a b) (keeping b a) o p ≡ Some e → ((e.keep ≡ a) × (e.remove ≡ b)) ⊎ ((e.keep ≡ b) × (e.remove ≡ a))
+    go (Some m) (Some n) f = pick (Ieee.lt m n) f
+    go (Some m) None f = inl (ends (keeping a b) f)
+    go None (Some n) f = inr (ends (keeping b a) f)
+    go None None f = cc
 
 lone_open : (c : List ℕ) (j : ℕ) → common (triangles c) (at c j) (at c (nx j)) (hinge (triangles c) (at c j) (at c (nx j))).c (hinge (triangles c) (at c j) (at c (nx j))).d ≡ lone c j
 unfolding lone
@@ -195,15 +215,26 @@ module _ (c ls : List ℕ) (p touched : ℕ) (h : Lists c p) (cl : Closed (trian
         go true f = step_is true f ∙ ap (λ (b : Bool). cond (b && first s) (collapse_step (pair_of c ls) st (at c k) (at c (nx k))) st) e
         go false f = step_is false f ∙ ap (λ (b : Bool). cond (b && second s) (collapse_step (pair_of c ls) st (at c (nx k)) (at c k)) st) e
 
-    pub step-way : (x y z : Bool) → first s ≡ x → second s ≡ y → (x ≡ true → y ≡ true → less s ≡ z) → may_at c w touched k ≡ true
-        → step_of true s (pair_of c ls) st (side (at c k) (at c (nx k))) ≡ chosen (way_of x y z) (collapse_step (pair_of c ls) st (at c k) (at c (nx k))) (collapse_step (pair_of c ls) st (at c (nx k)) (at c k)) st
-    step-way true true true ex ey ez e =
-        step_is false (ap₂ (λ (u v : Bool). u && not (v && less s)) ex ey ∙ ap not (ez refl refl)) ∙ ap₂ (λ (u v : Bool). cond (u && v) (collapse_step (pair_of c ls) st (at c (nx k)) (at c k)) st) e ey
-    step-way true true false ex ey ez e =
-        step_is true (ap₂ (λ (u v : Bool). u && not (v && less s)) ex ey ∙ ap not (ez refl refl)) ∙ ap₂ (λ (u v : Bool). cond (u && v) (collapse_step (pair_of c ls) st (at c k) (at c (nx k))) st) e ex
-    step-way true false z ex ey ez e =
+    step-by : (x y z : Bool) → first s ≡ x → second s ≡ y → less s ≡ z → may_at c w touched k ≡ true
+        → step_of true s (pair_of c ls) st (side (at c k) (at c (nx k))) ≡ chosen (cond x (cond y (cond z (Some (keeping (at c (nx k)) (at c k))) (Some (keeping (at c k) (at c (nx k))))) (Some (keeping (at c k) (at c (nx k))))) (cond y (Some (keeping (at c (nx k)) (at c k))) None)) (collapse_step (pair_of c ls) st) st
+    step-by true true true ex ey ez e =
+        step_is false (ap₂ (λ (u v : Bool). u && not (v && less s)) ex ey ∙ ap not ez) ∙ ap₂ (λ (u v : Bool). cond (u && v) (collapse_step (pair_of c ls) st (at c (nx k)) (at c k)) st) e ey
+    step-by true true false ex ey ez e =
+        step_is true (ap₂ (λ (u v : Bool). u && not (v && less s)) ex ey ∙ ap not ez) ∙ ap₂ (λ (u v : Bool). cond (u && v) (collapse_step (pair_of c ls) st (at c k) (at c (nx k))) st) e ex
+    step-by true false z ex ey ez e =
         step_is true (ap₂ (λ (u v : Bool). u && not (v && less s)) ex ey) ∙ ap₂ (λ (u v : Bool). cond (u && v) (collapse_step (pair_of c ls) st (at c k) (at c (nx k))) st) e ex
-    step-way false true z ex ey ez e =
+    step-by false true z ex ey ez e =
         step_is false (ap (λ (u : Bool). u && not (second s && less s)) ex) ∙ ap₂ (λ (u v : Bool). cond (u && v) (collapse_step (pair_of c ls) st (at c (nx k)) (at c k)) st) e ey
-    step-way false false z ex ey ez e =
+    step-by false false z ex ey ez e =
         step_is false (ap (λ (u : Bool). u && not (second s && less s)) ex) ∙ ap₂ (λ (u v : Bool). cond (u && v) (collapse_step (pair_of c ls) st (at c (nx k)) (at c k)) st) e ey
+
+    pub step-way : may_at c w touched k ≡ true
+        → step_of true s (pair_of c ls) st (side (at c k) (at c (nx k))) ≡ chosen (way_of (keeping (at c k) (at c (nx k))) (keeping (at c (nx k)) (at c k)) (attempted s (pair_of c ls) (at c k) (at c (nx k))) (attempted s (pair_of c ls) (at c (nx k)) (at c k))) (collapse_step (pair_of c ls) st) st
+    step-way e = step-by (first s) (second s) (less s) refl refl refl e ∙ ap (λ (o : Option Collapse). chosen o (collapse_step (pair_of c ls) st) st) (sym (by-tests (first s) (second s)))
+      where
+        by-tests : (x y : Bool) → way_of (keeping (at c k) (at c (nx k))) (keeping (at c (nx k)) (at c k)) (cond x (Some (worst s (pair_of c ls) (at c k) (at c (nx k)))) None) (cond y (Some (worst s (pair_of c ls) (at c (nx k)) (at c k))) None)
+            ≡ cond x (cond y (cond (less s) (Some (keeping (at c (nx k)) (at c k))) (Some (keeping (at c k) (at c (nx k))))) (Some (keeping (at c k) (at c (nx k))))) (cond y (Some (keeping (at c (nx k)) (at c k))) None)
+        by-tests true true = refl
+        by-tests true false = refl
+        by-tests false true = refl
+        by-tests false false = refl

@@ -1,5 +1,4 @@
 -- The laws of the definitions of the same names (`Covering` of `Cover`, `Touching` of `Touch`, `Prepared` of `Ready`); `Turns` has what the needs ask, over plain lists.
-pub mod Survey
 pub mod Trials
 pub mod Covering
 pub mod Touching

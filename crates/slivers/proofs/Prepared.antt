@@ -1,5 +1,5 @@
 -- Prepared words stay so where those below the touched ones stay.
-use Prim.Native.Nat.{ℕ, ◌+◌, ◌*◌, ◌/◌, ◌<◌}
+use Prim.Native.Nat.{ℕ, ◌+◌, ◌*◌, ◌<◌}
 use native.Mathlib.Omega.{arith}
 use mathlib.Core.Path.{◌≡◌, sym, ◌∙◌, subst}
 use mathlib.Core.List.{List}
@@ -7,8 +7,6 @@ use lib.ListN.{length}
 use lib.Ieee.{Float}
 use Rattle.halfedges.specs.Place.{at}
 use Rattle.sides.specs.Side.{Twin}
-use Rattle.chains.specs.Marks.{Lists}
-use Rattle.slivers.specs.Survey.{Survey}
 use Rattle.slivers.specs.Ready.{Ready}
 
 pub ready-kept : {ps : List Float} {c ls : List ℕ} {p : ℕ} {w : List ℕ} {chains carried marks touched : ℕ} (w' : List ℕ) → length w' ≡ length w → ((j : ℕ) → j < touched → at w' j ≡ at w j) → Ready ps c ls p w chains carried marks touched → Ready ps c ls p w' chains carried marks touched
@@ -31,6 +29,3 @@ ready-kept {ps} {c} {ls} {p} {w} {chains} {carried} {marks} {touched} w' e k r =
   fourth = r.fourth;
   room = omega (arith, r.room);
 }
-
-pub survey_of : {ps : List Float} {c ls : List ℕ} {p : ℕ} {w : List ℕ} {chains carried marks touched : ℕ} → Ready ps c ls p w chains carried marks touched → Survey ps c ls
-survey_of {ps} {c} {ls} {p} r = let z : p ≡ length ps / 3 = omega (arith, r.coords) in record { lists = subst (Lists c) z r.lists; labels = r.labelled.size }

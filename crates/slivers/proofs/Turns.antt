@@ -1,20 +1,19 @@
 -- What the needs of the functions ask, over plain lists with equations as arguments.
-use Prim.Native.Nat.{ℕ, zero, suc, ◌+◌, ◌*◌, ◌-◌, ◌/◌, ◌%◌, ◌<◌, ◌≤◌}
+use Prim.Native.Nat.{ℕ, suc, ◌+◌, ◌*◌, ◌-◌, ◌/◌, ◌%◌, ◌<◌, ◌≤◌}
 use native.Mathlib.Omega.{arith}
 use mathlib.Core.Path.{◌≡◌, refl, sym, ap, ap₂, ◌∙◌, subst}
 use mathlib.Core.Logic.{◌⊎◌, inl, inr}
-use mathlib.Core.Bool.{Bool, true, false, not, ◌&&◌, ◌||◌, cond, true≢false, false≢true}
-use mathlib.Core.List.{List, [], ◌∷◌, ◌++◌}
-use lib.Dec.{eqb, T}
-use lib.ListN.{length, get_or, set, length-set}
-use lib.Seq.{get_or-set_other}
+use mathlib.Core.Bool.{Bool, true, false, not, ◌&&◌, ◌||◌, cond}
+use mathlib.Core.List.{List}
+use lib.Dec.{eqb}
+use lib.ListN.{length, get_or, set}
 use lib.Ieee as Ieee
 use lib.Ieee.{Float, inf, binary64, of_bits, nan_bits}
-use borrow.Author.Tests.{eqb-true, eqb-false, eq-eqb, ne_eqb}
+use borrow.Author.Tests.{eq-eqb, ne_eqb}
 use Rattle.float.specs.Order.{lesser, within}
 use Rattle.float.proofs.Below.{within-below}
 use Rattle.surface.specs.Triangle.{Tri, tri, triangles, names}
-use Rattle.surface.specs.Closed.{one, Closed}
+use Rattle.surface.specs.Closed.{one}
 use Rattle.surface.specs.Edit.{place, put, renamed}
 use Rattle.surface.proofs.Bools.{true_false, both, not_true}
 use Rattle.surface.proofs.Flat.{place-triangles}
@@ -28,38 +27,27 @@ use Rattle.halfedges.proofs.Free.{free_none, free_more}
 use Rattle.chains.specs.Chain.{from, walk}
 use Rattle.chains.proofs.Chain.{walk_here, spot, Onward, onward-start, onward-next, onward-less, Upto, upto_start, upto_next}
 use Rattle.chains.specs.Common.{lone}
-use Rattle.chains.specs.Marks.{Lists, Walking}
-use Rattle.chains.proofs.Marks.{below_next, below_last}
+use Rattle.chains.specs.Marks.{Walking}
+use Rattle.chains.proofs.Marks.{below_next}
 use Rattle.oracle.specs.Number.{floor_low, floor_high}
 use Rattle.oracle.specs.Scene.{Scene, score}
-use Rattle.oracle.specs.Slivers.{floor, worst, fit, valid, least, pass}
-use Rattle.scores.specs.Measures.{score_at, side_at}
-use Rattle.slivers.specs.Survey.{On, Survey}
-use Rattle.slivers.specs.Cover.{Lacks, Covering, Covers}
-use Rattle.slivers.proofs.Covering.{cover_turn, covers_covered}
+use Rattle.oracle.specs.Slivers.{worst, fit, valid, least, pass}
+use Rattle.scores.specs.Measures.{side_at}
+use Rattle.slivers.specs.Cover.{Covers}
+use Rattle.slivers.proofs.Covering.{covers_covered}
 use Rattle.slivers.specs.Touch.{is_touched, touch_at}
-use Rattle.slivers.proofs.Touching.{among, Touching, touching, names-among}
-use Rattle.slivers.specs.Trials.{tri_of, label_of, falls, ok_at, step_at, lowered, Trials}
+use Rattle.slivers.proofs.Touching.{Touching, touching, names-among}
+use Rattle.slivers.specs.Trials.{tri_of, label_of, falls, ok_at, step_at, tried, trials}
 use Rattle.slivers.proofs.Trials.{walk-least, places-valid, valid-places}
 use Rattle.slivers.specs.Stand.{pair_of, Stands}
 use Rattle.slivers.proofs.Stand.{Collapsed, collapse-len, collapse-under, collapse-over, stands_collapse}
-use Rattle.slivers.specs.Decide.{step_of, may_at, way_of}
-use Rattle.slivers.proofs.Decide.{chosen, step-off, step-way, pass-more}
-use Rattle.slivers.specs.Ready.{Ready, Walks, Tried, Attempt, Way, collapsed_words, Advance, candidates_in, Passing, Items}
+use Rattle.slivers.specs.Decide.{step_of, may_at, attempted, keeping, way_of}
+use Rattle.slivers.specs.declared.Collapse.{Collapse}
+use Rattle.slivers.proofs.Decide.{chosen, way-ends, step-off, step-way, pass-more}
+use Rattle.slivers.specs.Ready.{Ready, Walks, collapsed_words, Advance, candidates_in, Passing, Items}
+use Rattle.std.specs.Prelude.{Option, Some, None}
 
 -- ---- labels
-
-pub lacks_none : (w : List ℕ) (carried a b l m : ℕ) → m ≡ at w (carried + b * 8 + l) → m ≡ 0 → Lacks w carried a b l false
-lacks_none w carried a b l m e z = record { yea = λ q. absurd (false≢true q); nay = λ q. inl (sym e ∙ z) }
-
-pub lacks_is : (w : List ℕ) (carried a b l m n : ℕ) → m ≡ at w (carried + b * 8 + l) → (m ≡ 0 → ⊥) → n ≡ at w (carried + a * 8 + l) → Lacks w carried a b l (eqb n 0)
-lacks_is w carried a b l m n e z f = record { yea = λ q. ((λ y. z (e ∙ y)), sym f ∙ eqb-true n 0 q); nay = λ q. inr (λ y. eqb-false n 0 q (f ∙ y)) }
-
-pub covers_no : (w : List ℕ) (carried a b l : ℕ) → l < 8 → Lacks w carried a b l true → Covers w carried a b false
-covers_no w carried a b l o k = record { yea = λ q. absurd (false≢true q); nay = λ q g. let z = k.yea refl in g l o z.0 z.1 }
-
-pub covers_yes : (w : List ℕ) (carried a b l : ℕ) → l ≡ 8 → Covering w carried a b l → Covers w carried a b true
-covers_yes w carried a b l e g = record { yea = λ q. subst (Covering w carried a b) e g; nay = λ q. absurd (true≢false q) }
 
 -- ---- put_for, moved_score
 
@@ -68,13 +56,6 @@ put_yes a b x e = sym (ap (λ (t : Bool). cond t a x) (eq-eqb x b e))
 
 pub put_no : (a b x : ℕ) → (x ≡ b → ⊥) → x ≡ put a b x
 put_no a b x e = sym (ap (λ (t : Bool). cond t a x) (ne_eqb x b e))
-
-pub put_on : (ps : List Float) (c : List ℕ) (k a b x v : ℕ) → Lists c (length ps / 3) → k < length c → On ps a → v ≡ at c k → x ≡ put a b v → On ps x
-put_on ps c k a b x v h l o e f = go (eqb v b) refl
-  where
-    go : (t : Bool) → eqb v b ≡ t → On ps x
-    go true q = subst (On ps) (sym (f ∙ ap (λ (s : Bool). cond s a v) q)) o
-    go false q = subst (On ps) (sym (f ∙ ap (λ (s : Bool). cond s a v) q)) (omega (arith, h.below k l))
 
 pub moved-is : (s : Scene) (c ls : List ℕ) (a b i u v w x y z : ℕ) → i * 3 + 2 < length c → u ≡ at c (i * 3) → v ≡ at c (i * 3 + 1) → w ≡ at c (i * 3 + 2) → x ≡ put a b u → y ≡ put a b v → z ≡ put a b w
     → score s (tri x y z) (get_or ls i 0) ≡ score s (renamed a b (place (triangles c) i)) (get_or ls i 0)
@@ -97,16 +78,17 @@ module _ (s : Scene) (c ls : List ℕ) (a b k : ℕ) (m : Float) (h : length c %
   names-is : names (tri_of c k) a ≡ (eqb (at c (nx k)) a || eqb (at c (pv k)) a)
   names-is = names-among c k a h l ∙ ap (λ (t : Bool). t || (eqb (at c (nx k)) a || eqb (at c (pv k)) a)) off
 
-  on-side : names (tri_of c k) a ≡ true → Tried s c ls a b k m true m
-  on-side q = record {
-    valid = sym (ap (λ (t : Bool). not (not t && falls s a b (tri_of c k) (label_of ls k))) q);
-    least = λ r. sym (ap (λ (t : Bool). cond t m (lesser m (score s (renamed a b (tri_of c k)) (label_of ls k)))) q);
-  }
+  -- by whether the triangle names a, and whether it falls
+  abbrev tested : Bool → Bool → Option Float
+  tested t u = cond (not (not t && u)) (Some (cond t m (lesser m (score s (renamed a b (tri_of c k)) (label_of ls k))))) None
 
-  pub tried-ahead : (x : ℕ) → x ≡ at c (nx k) → x ≡ a → Tried s c ls a b k m true m
+  on-side : names (tri_of c k) a ≡ true → Some m ≡ tried s c ls a b k m
+  on-side q = sym (ap (λ (t : Bool). tested t (falls s a b (tri_of c k) (label_of ls k))) q)
+
+  pub tried-ahead : (x : ℕ) → x ≡ at c (nx k) → x ≡ a → Some m ≡ tried s c ls a b k m
   tried-ahead x f g = on-side (names-is ∙ ap (λ (t : Bool). t || eqb (at c (pv k)) a) (eq-eqb (at c (nx k)) a (sym f ∙ g)))
 
-  pub tried-behind : (x : ℕ) → x ≡ at c (pv k) → x ≡ a → Tried s c ls a b k m true m
+  pub tried-behind : (x : ℕ) → x ≡ at c (pv k) → x ≡ a → Some m ≡ tried s c ls a b k m
   tried-behind x f g = on-side (names-is ∙ last (eqb (at c (nx k)) a) (eqb (at c (pv k)) a) (eq-eqb (at c (pv k)) a (sym f ∙ g)))
     where
       last : (p q : Bool) → q ≡ true → (p || q) ≡ true
@@ -120,22 +102,27 @@ module _ (s : Scene) (c ls : List ℕ) (a b k : ℕ) (m : Float) (h : length c %
     falls-is : Ieee.lt q f ≡ falls s a b (tri_of c k) (label_of ls k)
     falls-is = ap₂ Ieee.lt eq (ef ∙ ap (λ (u : Float). within u floor_low floor_high) eo)
 
-    pub tried-low : Ieee.lt q f ≡ true → Tried s c ls a b k m false m
-    tried-low t = record { valid = sym (ap₂ (λ (u v : Bool). not (not u && v)) not_named (sym falls-is ∙ t)); least = λ r. absurd (false≢true r) }
+    pub tried-low : Ieee.lt q f ≡ true → None ≡ tried s c ls a b k m
+    tried-low t = sym (ap₂ tested not_named (sym falls-is ∙ t))
 
-    pub tried-high : (r : Float) → Ieee.lt q f ≡ false → r ≡ lesser m q → Tried s c ls a b k m true r
-    tried-high r t g = record {
-      valid = sym (ap₂ (λ (u v : Bool). not (not u && v)) not_named (sym falls-is ∙ t));
-      least = λ z. g ∙ ap (lesser m) eq ∙ sym (ap (λ (u : Bool). cond u m (lesser m (score s (renamed a b (tri_of c k)) (label_of ls k)))) not_named);
-    }
+    pub tried-high : (r : Float) → Ieee.lt q f ≡ false → r ≡ lesser m q → Some r ≡ tried s c ls a b k m
+    tried-high r t g = ap Some (g ∙ ap (lesser m) eq) ∙ sym (ap₂ tested not_named (sym falls-is ∙ t))
 
   -- a shape that reaches the highest floor is above any: the triangle's own need not be known
-  pub tried-fine : (x y : ℕ) → x ≡ at c (nx k) → y ≡ at c (pv k) → (x ≡ a → ⊥) → (y ≡ a → ⊥) → (q r : Float) → q ≡ score s (renamed a b (tri_of c k)) (label_of ls k) → Ieee.le floor_high q ≡ true → r ≡ lesser m q → Tried s c ls a b k m true r
+  pub tried-fine : (x y : ℕ) → x ≡ at c (nx k) → y ≡ at c (pv k) → (x ≡ a → ⊥) → (y ≡ a → ⊥) → (q r : Float) → q ≡ score s (renamed a b (tri_of c k)) (label_of ls k) → Ieee.le floor_high q ≡ true → r ≡ lesser m q → Some r ≡ tried s c ls a b k m
   tried-fine x y ex ey nx-off pv-off q r eq t g =
       let own = score s (tri_of c k) (label_of ls k) in
       tried-high x y ex ey nx-off pv-off q own (within own floor_low floor_high) eq refl refl r (floor-reached q own t) g
 
 -- ---- try_places
+
+some_when : (t : Bool) (x y : Float) → Some x ≡ cond t (Some y) None → (t ≡ true) × (x ≡ y)
+some_when true x y e = (refl, cc)
+some_when false x y e = cc
+
+none_when : (t : Bool) (y : Float) → None ≡ cond t (Some y) None → t ≡ false
+none_when true y e = cc
+none_when false y e = refl
 
 pub record Trying (s : Scene) (c ls : List ℕ) (a b q : ℕ) (m : Float) : Type 0 where
   pub onward : Onward c b q
@@ -156,40 +143,33 @@ module _ (s : Scene) (c ls : List ℕ) (p : ℕ) (w : List ℕ) (chains a b n : 
     link : (r : ℕ) → r ≡ at w (chains + p + k) → r ≡ from c b (suc k) (length c - suc k)
     link r i = i ∙ h.chained.links k own.1 ∙ ap (λ (x : ℕ). from c x (suc k) (length c - suc k)) own.0
 
-    pub trying_next : (r : ℕ) (x : Float) → r ≡ at w (chains + p + k) → Tried s c ls a b k m true x → Trying s c ls a b r x
+    pub trying_next : (r : ℕ) (x : Float) → r ≡ at w (chains + p + k) → Some x ≡ tried s c ls a b k m → Trying s c ls a b r x
     trying_next r x i d =
         let j = link r i in
+        let z = some_when (ok_at s c ls a b k) x (step_at s c ls a b k m) d in
         let o = onward-next (step_at s c ls a b) c b (inf false) q r k e t.onward j in
         let u : Upto (λ k. ok_at s c ls a b k ≡ true) c b k = λ v y. t.ok v (subst (λ (z : ℕ). v < spot (length c) z) (sym e) y) in
         let here : walk (step_at s c ls a b) c b k (inf false) ≡ m = ap (λ (z : ℕ). walk (step_at s c ls a b) c b (spot (length c) z) (inf false)) (sym e) ∙ sym t.is in
         record {
           onward = o.0;
-          ok = upto_next (λ k. ok_at s c ls a b k ≡ true) c b q r k e t.onward j u (sym d.valid);
-          is = d.least refl ∙ ap (step_at s c ls a b k) (sym here) ∙ sym o.1;
+          ok = upto_next (λ k. ok_at s c ls a b k ≡ true) c b q r k e t.onward j u z.0;
+          is = z.1 ∙ ap (step_at s c ls a b k) (sym here) ∙ sym o.1;
         }
 
     pub trying_less : (r : ℕ) → r ≡ at w (chains + p + k) → length c - spot (length c) r < length c - spot (length c) q
     trying_less r i = onward-less c b q r k e t.onward (link r i)
 
-    pub trying_no : (x : Float) → length c % 3 ≡ 0 → length ls * 3 ≡ length c → Tried s c ls a b k m false x → Trials s c ls a b false x
-    trying_no x th sz d = record {
-      valid = go (valid s (triangles c) ls a b) refl;
-      least = λ z. absurd (false≢true z);
-    }
+    pub trying_no : length c % 3 ≡ 0 → length ls * 3 ≡ length c → None ≡ tried s c ls a b k m → None ≡ trials s c ls a b
+    trying_no th sz d = go (valid s (triangles c) ls a b) refl
       where
-        go : (v : Bool) → valid s (triangles c) ls a b ≡ v → false ≡ valid s (triangles c) ls a b
-        go true f = absurd (true_false (valid-places s c ls a b th sz f k own.1 own.0) (sym d.valid))
-        go false f = sym f
+        go : (v : Bool) → valid s (triangles c) ls a b ≡ v → None ≡ trials s c ls a b
+        go true f = absurd (true_false (valid-places s c ls a b th sz f k own.1 own.0) (none_when (ok_at s c ls a b k) (step_at s c ls a b k m) d))
+        go false f = sym (ap (λ (v : Bool). cond v (Some (least s a b (inf false) (triangles c) ls)) None) f)
 
-  pub trying_yes : (q : ℕ) (m : Float) → length c % 3 ≡ 0 → length ls * 3 ≡ length c → q ≡ 0 → Trying s c ls a b q m → Trials s c ls a b true m
-  trying_yes q m th sz z t = record {
-    valid = sym (places-valid s c ls a b th sz (λ k l. t.ok k (subst (λ (x : ℕ). k < spot (length c) x) (sym z) l)));
-    least = λ y. t.is ∙ ap (λ (x : ℕ). walk (step_at s c ls a b) c b (spot (length c) x) (inf false)) z ∙ walk-least s c ls a b th sz (closed_differing c th h.closed) (inf false);
-  }
-
-pub inf_bits : of_bits binary64 0x7ff0_0000_0000_0000 ≡ inf false
-unfolding of_bits
-inf_bits = refl
+  pub trying_yes : (q : ℕ) (m : Float) → length c % 3 ≡ 0 → length ls * 3 ≡ length c → q ≡ 0 → Trying s c ls a b q m → Some m ≡ trials s c ls a b
+  trying_yes q m th sz z t =
+      ap Some (t.is ∙ ap (λ (x : ℕ). walk (step_at s c ls a b) c b (spot (length c) x) (inf false)) z ∙ walk-least s c ls a b th sz (closed_differing c th h.closed) (inf false))
+      ∙ sym (ap (λ (v : Bool). cond v (Some (least s a b (inf false) (triangles c) ls)) None) (places-valid s c ls a b th sz (λ k l. t.ok k (subst (λ (x : ℕ). k < spot (length c) x) (sym z) l))))
 
 -- ---- attempt, direction
 
@@ -197,23 +177,16 @@ module _ (s : Scene) (ps : List Float) (c ls : List ℕ) (p : ℕ) (w : List ℕ
   covered-is : (r : Bool) → Covers w carried a b r → r ≡ covered (pair_of c ls) a b
   covered-is r k = covers_covered c ls p w carried a b r la lb h.labelled h.carries k
 
-  pub attempt_yes : (ok : Bool) (m : Float) → Covers w carried a b true → Trials s c ls a b ok m → Attempt s c ls a b ok m
+  abbrev fitting : Bool → Option Float
+  fitting u = cond (u && valid s (triangles c) ls a b) (Some (worst s (pair_of c ls) a b)) None
+
+  pub attempt_yes : (o : Option Float) → Covers w carried a b true → o ≡ trials s c ls a b → o ≡ attempted s (pair_of c ls) a b
   unfolding fit
-  attempt_yes ok m k t = record { valid = t.valid ∙ ap (λ (u : Bool). u && valid s (triangles c) ls a b) (covered-is true k); least = t.least }
+  attempt_yes o k e = e ∙ ap fitting (covered-is true k)
 
-  pub attempt_no : (m : Float) → Covers w carried a b false → Attempt s c ls a b false m
+  pub attempt_no : Covers w carried a b false → None ≡ attempted s (pair_of c ls) a b
   unfolding fit
-  attempt_no m k = record { valid = ap (λ (u : Bool). u && valid s (triangles c) ls a b) (covered-is false k); least = λ z. absurd (false≢true z) }
-
-  pub walks_of : (b ≡ a → ⊥) → (n : ℕ) → n ≡ length ps → Walks c p w chains a b n
-  walks_of e n z = record { chained = h.chained; room = omega (arith, h.second, h.room); keep = la; remove = lb; apart = e; coords = z ∙ h.coords; closed = h.closed }
-
-pub way-is : (s : Scene) (c ls : List ℕ) (a b r : ℕ) (x y : Bool) (m n : Float) (z : Bool) → Attempt s c ls a b x m → Attempt s c ls b a y n → (x ≡ true → y ≡ true → Ieee.lt m n ≡ z) → r ≡ way_of x y z → Way s c ls a b r
-way-is s c ls a b r x y m n z f g l e = record {
-  less = z;
-  is = e ∙ ap₂ (λ (u v : Bool). way_of u v z) f.valid g.valid;
-  by = λ u v. let p = f.valid ∙ u in let q = g.valid ∙ v in ap₂ Ieee.lt (sym (f.least p)) (sym (g.least q)) ∙ l p q;
-}
+  attempt_no k = ap fitting (covered-is false k)
 
 -- ---- touch
 
@@ -272,21 +245,11 @@ walking_kept c p w w' chains touched v h e =
 -- ---- may_collapse
 
 module _ (c w : List ℕ) (touched k : ℕ) where
-  pub may_one : (a m : ℕ) → a ≡ at c k → m ≡ at w (touched + a) → (m ≡ 0 → ⊥) → false ≡ may_at c w touched k
-  may_one a m ea em n = sym (ap (λ (t : Bool). not t && (not (is_touched w touched (at c (nx k))) && (lone c k && not (eqb (uses c (at c k) (length c)) 3 && eqb (uses c (at c (nx k)) (length c)) 3)))) (ap not (ne_eqb (at w (touched + at c k)) 0 (λ z. n (em ∙ ap (λ (i : ℕ). at w (touched + i)) ea ∙ z)))))
-
   free : (a m : ℕ) → a ≡ at c k → m ≡ at w (touched + a) → m ≡ 0 → is_touched w touched (at c k) ≡ false
   free a m ea em z = ap not (eq-eqb (at w (touched + at c k)) 0 (sym (em ∙ ap (λ (i : ℕ). at w (touched + i)) ea) ∙ z))
 
   free_b : (b m : ℕ) → b ≡ at c (nx k) → m ≡ at w (touched + b) → m ≡ 0 → is_touched w touched (at c (nx k)) ≡ false
   free_b b m eb em z = ap not (eq-eqb (at w (touched + at c (nx k))) 0 (sym (em ∙ ap (λ (i : ℕ). at w (touched + i)) eb) ∙ z))
-
-  pub may_two : (b m : ℕ) → b ≡ at c (nx k) → m ≡ at w (touched + b) → (m ≡ 0 → ⊥) → false ≡ may_at c w touched k
-  may_two b m eb em n = sym (ap (λ (t : Bool). not (is_touched w touched (at c k)) && (not t && (lone c k && not (eqb (uses c (at c k) (length c)) 3 && eqb (uses c (at c (nx k)) (length c)) 3)))) (ap not (ne_eqb (at w (touched + at c (nx k))) 0 (λ z. n (em ∙ ap (λ (i : ℕ). at w (touched + i)) eb ∙ z)))) ∙ none (not (is_touched w touched (at c k))))
-    where
-      none : (p : Bool) → (p && false) ≡ false
-      none true = refl
-      none false = refl
 
   unbit : (t : Bool) → one t ≡ 0 → t ≡ false
   unbit true e = absurd (let z : ◌≡◌ {A = ℕ} 1 0 = e in omega arith)
@@ -295,14 +258,6 @@ module _ (c w : List ℕ) (touched k : ℕ) where
   onbit : (t : Bool) → (one t ≡ 0 → ⊥) → t ≡ true
   onbit true e = refl
   onbit false e = absurd (e refl)
-
-  pub may_three : (m : ℕ) → m ≡ one (lone c k) → m ≡ 0 → false ≡ may_at c w touched k
-  may_three m em z = sym (ap (λ (t : Bool). not (is_touched w touched (at c k)) && (not (is_touched w touched (at c (nx k))) && (t && not (eqb (uses c (at c k) (length c)) 3 && eqb (uses c (at c (nx k)) (length c)) 3)))) (unbit (lone c k) (sym em ∙ z)) ∙ none (not (is_touched w touched (at c k))) (not (is_touched w touched (at c (nx k)))))
-    where
-      none : (p q : Bool) → (p && (q && false)) ≡ false
-      none true true = refl
-      none true false = refl
-      none false q = refl
 
   module _ (a b m₁ m₂ m₃ : ℕ) (ea : a ≡ at c k) (eb : b ≡ at c (nx k)) (e₁ : m₁ ≡ at w (touched + a)) (z₁ : m₁ ≡ 0) (e₂ : m₂ ≡ at w (touched + b)) (z₂ : m₂ ≡ 0) (e₃ : m₃ ≡ one (lone c k)) (z₃ : m₃ ≡ 0 → ⊥) where
     opened : may_at c w touched k ≡ not (eqb (uses c (at c k) (length c)) 3 && eqb (uses c (at c (nx k)) (length c)) 3)
@@ -321,18 +276,7 @@ module _ (c w : List ℕ) (touched k : ℕ) where
 
 -- ---- collapse_side
 
-pub collapsed-is : (c : List ℕ) (p touched a b k t : ℕ) (w w₁ w₂ w₃ w₄ w₅ : List ℕ) → w₁ ≡ walk (touch_at c touched) c a (length c) w → w₂ ≡ walk (touch_at c touched) c b (length c) w₁ → w₃ ≡ set w₂ (touched + p + b) a → w₄ ≡ set w₃ (touched + p * 2 + k / 3) 1 → w₅ ≡ set w₄ (touched + p * 2 + t / 3) 1 → w₅ ≡ collapsed_words c p touched a b k t w
-collapsed-is c p touched a b k t w w₁ w₂ w₃ w₄ w₅ e₁ e₂ e₃ e₄ e₅ =
-    e₅ ∙ ap (λ (x : List ℕ). set x (touched + p * 2 + t / 3) 1) (e₄ ∙ ap (λ (x : List ℕ). set x (touched + p * 2 + k / 3) 1) (e₃ ∙ ap (λ (x : List ℕ). set x (touched + p + b) a) (e₂ ∙ ap (walk (touch_at c touched) c b (length c)) e₁)))
-
 -- ---- collapse_candidate
-
-way-two : (x y z : Bool) → (way_of x y z ≡ 0 → ⊥) → (way_of x y z ≡ 1 → ⊥) → way_of x y z ≡ 2
-way-two true true true m n = refl
-way-two true true false m n = absurd (n refl)
-way-two true false z m n = absurd (n refl)
-way-two false true z m n = refl
-way-two false false z m n = absurd (m refl)
 
 module _ (s : Scene) (ps : List Float) (c ls : List ℕ) (p : ℕ) (w : List ℕ) (chains carried marks touched : ℕ) (h : Ready ps c ls p w chains carried marks touched) (k : ℕ) (l : k < length c) where
   t : ℕ
@@ -347,16 +291,27 @@ module _ (s : Scene) (ps : List Float) (c ls : List ℕ) (p : ℕ) (w : List ℕ
     step = λ st g. subst (Stands c (length ls) p touched w) (sym (step-off c ls p touched h.lists h.closed k (at w (p * 3 + length c + k)) l tw (length ls) w st g s e)) g;
   }
 
-  module _ (r : ℕ) (v : Way s c ls (at c k) (at c (nx k)) r) (e : may_at c w touched k ≡ true) where
-    step_is : (st : State) → Stands c (length ls) p touched w st → step_of true s (pair_of c ls) st (side_at c k) ≡ chosen r (collapse_step (pair_of c ls) st (at c k) (at c (nx k))) (collapse_step (pair_of c ls) st (at c (nx k)) (at c k)) st
-    step_is st g =
-        step-way c ls p touched h.lists h.closed k (at w (p * 3 + length c + k)) l tw (length ls) w st g s (fit s (pair_of c ls) (at c k) (at c (nx k))) (fit s (pair_of c ls) (at c (nx k)) (at c k)) v.less refl refl v.by e
-        ∙ ap (λ (n : ℕ). chosen n (collapse_step (pair_of c ls) st (at c k) (at c (nx k))) (collapse_step (pair_of c ls) st (at c (nx k)) (at c k)) st) (sym v.is)
+  module _ (a b : ℕ) (ea : a ≡ at c k) (eb : b ≡ at c (nx k)) (r : Option Collapse) (v : r ≡ way_of (keeping a b) (keeping b a) (attempted s (pair_of c ls) a b) (attempted s (pair_of c ls) b a)) (e : may_at c w touched k ≡ true) where
+    way : r ≡ way_of (keeping (at c k) (at c (nx k))) (keeping (at c (nx k)) (at c k)) (attempted s (pair_of c ls) (at c k) (at c (nx k))) (attempted s (pair_of c ls) (at c (nx k)) (at c k))
+    way = v ∙ ap₂ (λ (x y : ℕ). way_of (keeping x y) (keeping y x) (attempted s (pair_of c ls) x y) (attempted s (pair_of c ls) y x)) ea eb
 
-    pub advance_zero : r ≡ 0 → Advance s c ls p touched (side_at c k) w w
-    advance_zero z = record {
+    step_is : (st : State) → Stands c (length ls) p touched w st → step_of true s (pair_of c ls) st (side_at c k) ≡ chosen r (collapse_step (pair_of c ls) st) st
+    step_is st g = step-way c ls p touched h.lists h.closed k (at w (p * 3 + length c + k)) l tw (length ls) w st g s e ∙ ap (λ (o : Option Collapse). chosen o (collapse_step (pair_of c ls) st) st) (sym way)
+
+    ends_of : (d : Collapse) → r ≡ Some d → ((d.keep ≡ at c k) × (d.remove ≡ at c (nx k))) ⊎ ((d.keep ≡ at c (nx k)) × (d.remove ≡ at c k))
+    ends_of d z = way-ends (at c k) (at c (nx k)) d _ _ (sym way ∙ z)
+
+    pub ends-low : (d : Collapse) → r ≡ Some d → (d.keep < p) × (d.remove < p)
+    ends-low d z = pick (ends_of d z)
+      where
+        pick : ((d.keep ≡ at c k) × (d.remove ≡ at c (nx k))) ⊎ ((d.keep ≡ at c (nx k)) × (d.remove ≡ at c k)) → (d.keep < p) × (d.remove < p)
+        pick (inl q) = let m = h.lists.below k l in let n = below_next h.lists k l in (omega (arith, q.0), omega (arith, q.1))
+        pick (inr q) = let m = h.lists.below k l in let n = below_next h.lists k l in (omega (arith, q.0), omega (arith, q.1))
+
+    pub advance_stays : r ≡ None → Advance s c ls p touched (side_at c k) w w
+    advance_stays z = record {
       rest = free_none w;
-      step = λ st g. subst (Stands c (length ls) p touched w) (sym (step_is st g ∙ ap (λ (n : ℕ). chosen n (collapse_step (pair_of c ls) st (at c k) (at c (nx k))) (collapse_step (pair_of c ls) st (at c (nx k)) (at c k)) st) z)) g;
+      step = λ st g. subst (Stands c (length ls) p touched w) (sym (step_is st g ∙ ap (λ (o : Option Collapse). chosen o (collapse_step (pair_of c ls) st) st) z)) g;
     }
 
     -- a collapse with the ends in one order or the other
@@ -392,7 +347,7 @@ module _ (s : Scene) (ps : List Float) (c ls : List ℕ) (p : ℕ) (w : List ℕ
           pick (inl z) = ap st.touched z.1 ∙ g.marks (at c (nx k)) (below_next h.lists k l) ∙ not_true (is_touched w touched (at c (nx k))) (both (not (is_touched w touched (at c (nx k)))) (lone c k && not (eqb (uses c (at c k) (length c)) 3 && eqb (uses c (at c (nx k)) (length c)) 3)) (both (not (is_touched w touched (at c k))) (not (is_touched w touched (at c (nx k))) && (lone c k && not (eqb (uses c (at c k) (length c)) 3 && eqb (uses c (at c (nx k)) (length c)) 3))) e).1).0
           pick (inr z) = ap st.touched z.1 ∙ g.marks (at c k) (h.lists.below k l) ∙ not_true (is_touched w touched (at c k)) (both (not (is_touched w touched (at c k))) (not (is_touched w touched (at c (nx k))) && (lone c k && not (eqb (uses c (at c k) (length c)) 3 && eqb (uses c (at c (nx k)) (length c)) 3))) e).0
 
-      pub advance_by : ((st : State) → Stands c (length ls) p touched w st → step_of true s (pair_of c ls) st (side_at c k) ≡ collapse_step (pair_of c ls) st x y) → Advance s c ls p touched (side_at c k) w w'
+      advance_by : ((st : State) → Stands c (length ls) p touched w st → step_of true s (pair_of c ls) st (side_at c k) ≡ collapse_step (pair_of c ls) st x y) → Advance s c ls p touched (side_at c k) w w'
       advance_by f =
           let w₁ = walk (touch_at c touched) c x (length c) w in
           let w₂ = walk (touch_at c touched) c y (length c) w₁ in
@@ -408,23 +363,13 @@ module _ (s : Scene) (ps : List Float) (c ls : List ℕ) (p : ℕ) (w : List ℕ
             step = λ st g. subst (Stands c (length ls) p touched w') (sym (f st g)) (subst (λ (u : List ℕ). Stands c (length ls) p touched u (collapse_step (pair_of c ls) st x y)) (sym q) (stands_collapse c ls (length ls) p touched h.lists h.closed size k (at w (p * 3 + length c + k)) l tw x y w w₁ w₂ w₃ w₄ w₅ h.room ends d st g (untouched st g)));
           }
 
-    pub advance_one : (a b u : ℕ) (w' : List ℕ) → a ≡ at c k → b ≡ at c (nx k) → u ≡ at w (p * 3 + length c + k) → r ≡ 1 → w' ≡ collapsed_words c p touched a b k u w → Advance s c ls p touched (side_at c k) w w'
-    advance_one a b u w' ea eb eu z q = advance_by a b (inl (ea, eb)) w' (q ∙ ap (λ (i : ℕ). collapsed_words c p touched a b k i w) eu)
-        (λ st g. step_is st g ∙ ap (λ (n : ℕ). chosen n (collapse_step (pair_of c ls) st (at c k) (at c (nx k))) (collapse_step (pair_of c ls) st (at c (nx k)) (at c k)) st) z ∙ ap₂ (collapse_step (pair_of c ls) st) (sym ea) (sym eb))
-
-    pub advance_two : (a b u : ℕ) (w' : List ℕ) → a ≡ at c k → b ≡ at c (nx k) → u ≡ at w (p * 3 + length c + k) → (r ≡ 0 → ⊥) → (r ≡ 1 → ⊥) → w' ≡ collapsed_words c p touched b a k u w → Advance s c ls p touched (side_at c k) w w'
-    advance_two a b u w' ea eb eu m n q = advance_by b a (inr (eb, ea)) w' (q ∙ ap (λ (i : ℕ). collapsed_words c p touched b a k i w) eu)
-        (λ st g. step_is st g ∙ ap (λ (n : ℕ). chosen n (collapse_step (pair_of c ls) st (at c k) (at c (nx k))) (collapse_step (pair_of c ls) st (at c (nx k)) (at c k)) st) two ∙ ap₂ (collapse_step (pair_of c ls) st) (sym eb) (sym ea))
-      where
-        two : r ≡ 2
-        two = v.is ∙ way-two (fit s (pair_of c ls) (at c k) (at c (nx k))) (fit s (pair_of c ls) (at c (nx k)) (at c k)) v.less (λ z. m (v.is ∙ z)) (λ z. n (v.is ∙ z))
+    pub advance_takes : (d : Collapse) (u : ℕ) (w' : List ℕ) → r ≡ Some d → u ≡ at w (p * 3 + length c + k) → w' ≡ collapsed_words c p touched d.keep d.remove k u w → Advance s c ls p touched (side_at c k) w w'
+    advance_takes d u w' z eu q = advance_by d.keep d.remove (ends_of d z) w' (q ∙ ap (λ (i : ℕ). collapsed_words c p touched d.keep d.remove k i w) eu)
+        (λ st g. step_is st g ∙ ap (λ (o : Option Collapse). chosen o (collapse_step (pair_of c ls) st) st) z)
 
 -- the ends of a side differ
 pub ends-differ : {ps : List Float} {c ls : List ℕ} {p : ℕ} {w : List ℕ} {chains carried marks touched : ℕ} → Ready ps c ls p w chains carried marks touched → (k a b : ℕ) → k < length c → a ≡ at c k → b ≡ at c (nx k) → a ≡ b → ⊥
 ends-differ {ps} {c} h k a b l ea eb z = closed_differing c h.lists.thirds h.closed k l (sym ea ∙ z ∙ eb)
-
-pub walking_of : {ps : List Float} {c ls : List ℕ} {p : ℕ} {w : List ℕ} {chains carried marks touched : ℕ} → Ready ps c ls p w chains carried marks touched → Walking c p w chains touched
-walking_of h = record { lists = h.lists; chained = h.chained; order = h.second; room = omega (arith, h.room) }
 
 -- ---- collapse_candidates
 
@@ -447,7 +392,3 @@ passing_turn s c ls p sides items touched n j i k w w' w'' it l ei ek g a = subs
 
     k-is : k ≡ at w (sides + at w (items + j))
     k-is = ek ∙ ap (λ (x : ℕ). at w' (sides + x)) i_is ∙ g.rest.under (sides + at w (items + j)) (it.inside j l)
-
-pub number_bits : T (not (nan_bits binary64 9218868437227405312))
-unfolding nan_bits
-number_bits = tt

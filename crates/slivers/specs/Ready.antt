@@ -1,6 +1,5 @@
 -- What the functions of the collapse pass are handed and leave. Definitions only.
-use Rattle.std.specs.Prelude.{ℕ, zero, suc, ◌+◌, ◌*◌, ◌/◌, ◌<◌, ◌≤◌, ◌≡◌, Bool, true, List, [], ◌∷◌, ◌++◌, length, set, Float}
-use Rattle.std.specs.Float.Ieee as Ieee
+use Rattle.std.specs.Prelude.{ℕ, zero, suc, ◌+◌, ◌*◌, ◌/◌, ◌<◌, ◌≤◌, ◌≡◌, true, List, [], ◌∷◌, ◌++◌, length, set, Float}
 use Rattle.surface.specs.Triangle.{triangles}
 use Rattle.surface.specs.Closed.{one, Closed}
 use Rattle.rounds.specs.Pass.{State}
@@ -13,12 +12,12 @@ use Rattle.chains.specs.Common.{lone}
 use Rattle.chains.specs.LabelMarks.{Labelled, Carried}
 use Rattle.chains.specs.Marks.{Lists}
 use Rattle.scores.specs.Measures.{side_at}
-use Rattle.oracle.specs.Scene.{Scene}
-use Rattle.oracle.specs.Slivers.{worst, fit, pass}
+use Rattle.oracle.specs.Scene.{Scene, scene}
+use Rattle.slivers.specs.declared.Pass.{Pass}
+use Rattle.oracle.specs.Slivers.{pass}
 use Rattle.slivers.specs.Touch.{touch_at}
-use Rattle.slivers.specs.Trials.{ok_at, step_at}
 use Rattle.slivers.specs.Stand.{pair_of, Stands}
-use Rattle.slivers.specs.Decide.{step_of, way_of}
+use Rattle.slivers.specs.Decide.{step_of}
 
 -- The prepared words, all below `touched`: the valences and the twins (of `sides`), the chains, the marks of the labels and of the sides.
 pub record Ready (ps : List Float) (c ls : List ℕ) (p : ℕ) (w : List ℕ) (chains carried marks touched : ℕ) : Type 0 where
@@ -37,21 +36,13 @@ pub record Ready (ps : List Float) (c ls : List ℕ) (p : ℕ) (w : List ℕ) (c
   pub fourth : marks + length c ≤ touched
   pub room : touched + p * 2 + length ls ≤ length w
 
--- one triangle tried
-pub record Tried (s : Scene) (c ls : List ℕ) (a b k : ℕ) (m : Float) (ok : Bool) (r : Float) : Type 0 where
-  pub valid : ok ≡ ok_at s c ls a b k
-  pub least : ok ≡ true → r ≡ step_at s c ls a b k m
+-- the words of a pass are prepared
+abbrev pub Prepared : Pass → List ℕ → Type 0
+Prepared t w = Ready t.points.now t.corners.now t.labels.now t.heads w t.chains t.carried t.marks t.touched
 
--- a collapse tried: whether it is fit, and where it is the least shape
-pub record Attempt (s : Scene) (c ls : List ℕ) (a b : ℕ) (ok : Bool) (r : Float) : Type 0 where
-  pub valid : ok ≡ fit s (pair_of c ls) a b
-  pub least : ok ≡ true → r ≡ worst s (pair_of c ls) a b
-
--- the way of a collapse of the side between a and b
-pub record Way (s : Scene) (c ls : List ℕ) (a b r : ℕ) : Type 0 where
-  pub less : Bool
-  pub is : r ≡ way_of (fit s (pair_of c ls) a b) (fit s (pair_of c ls) b a) less
-  pub by : fit s (pair_of c ls) a b ≡ true → fit s (pair_of c ls) b a ≡ true → Ieee.lt (worst s (pair_of c ls) a b) (worst s (pair_of c ls) b a) ≡ less
+-- what its shapes are measured by
+abbrev pub scene_of : Pass → Scene
+scene_of t = scene t.points.now t.terms.coefficients.now t.terms.powers.now
 
 -- the words that a collapse leaves
 abbrev pub collapsed_words : List ℕ → ℕ → ℕ → ℕ → ℕ → ℕ → ℕ → List ℕ → List ℕ

@@ -1,5 +1,5 @@
 -- What a collapse makes of the triangles that lose a corner, by the places of that corner in rising order. Definitions only.
-use Rattle.std.specs.Prelude.{ℕ, ◌-◌, ◌/◌, ◌≡◌, Bool, true, false, not, ◌&&◌, cond, List, get_or, Float}
+use Rattle.std.specs.Prelude.{ℕ, ◌/◌, Bool, false, not, ◌&&◌, cond, List, get_or, Float, Option, Some, None}
 use Rattle.std.specs.Float.Ieee as Ieee
 use Rattle.std.specs.Float.{inf}
 use Rattle.float.specs.Order.{lesser}
@@ -28,7 +28,10 @@ lowered s a b t l m = cond (names t a) m (lesser m (score s (renamed a b t) l))
 abbrev pub step_at : Scene → List ℕ → List ℕ → ℕ → ℕ → ℕ → Float → Float
 step_at s c ls a b k m = lowered s a b (tri_of c k) (label_of ls k) m
 
--- what the functions leave: whether a collapse stays above the floors, and where it does the least shape
-pub record Trials (s : Scene) (c ls : List ℕ) (a b : ℕ) (ok : Bool) (m : Float) : Type 0 where
-  pub valid : ok ≡ valid s (triangles c) ls a b
-  pub least : ok ≡ true → m ≡ least s a b (inf false) (triangles c) ls
+-- one triangle more, that of the place k of b: the lesser of m and its shape, where it stays above its floor
+abbrev pub tried : Scene → List ℕ → List ℕ → ℕ → ℕ → ℕ → Float → Option Float
+tried s c ls a b k m = cond (ok_at s c ls a b k) (Some (step_at s c ls a b k m)) None
+
+-- the least shape, where each stays above its floor
+abbrev pub trials : Scene → List ℕ → List ℕ → ℕ → ℕ → Option Float
+trials s c ls a b = cond (valid s (triangles c) ls a b) (Some (least s a b (inf false) (triangles c) ls)) None

@@ -10,459 +10,245 @@ ghost use Rattle.chains.specs.Marks.{Lists, Walking};
 ghost use Rattle.scores.specs.Measures.{side_at};
 ghost use Rattle.slivers.specs.Survey.{On, Survey};
 ghost use Rattle.oracle.specs.Scene as Scene;
-ghost use Rattle.oracle.specs.Scene.{scene};
 ghost use Rattle.slivers.specs.Cover.{Lacks, Covers};
 ghost use Rattle.slivers.specs.Touch.{touch_at};
-ghost use Rattle.slivers.specs.Trials.{Trials};
-ghost use Rattle.slivers.specs.Decide.{may_at};
-ghost use Rattle.slivers.specs.Ready.{Ready, Walks, Tried, Attempt, Way, collapsed_words, Advance, Items, Passing};
+ghost use Rattle.slivers.specs.Trials.{tried, trials};
+ghost use Rattle.slivers.specs.Decide.{may_at, attempted, keeping, way_of};
+ghost use Rattle.slivers.specs.Stand.{pair_of};
+ghost use Rattle.slivers.specs.Ready.{scene_of, Prepared, Walks, collapsed_words, Advance, Items, Passing};
 
+use field::Terms;
 use float::{clamp, min};
 use scores::{score, score_at};
 use words::{ahead, behind, put, word};
 
-// Whether b carries the label l and a does not.
-fn lacks(carried: usize, a: usize, b: usize, l: usize, work: &[u32]) -> bool
-    requires { (carried + a * 8 + l < length work.now) × (carried + b * 8 + l < length work.now) }
-    ensures { Lacks work.now carried a b l result }
-{
-    if word(work, carried + b * 8 + l) == 0 {
-        return false;
-    }
-    word(work, carried + a * 8 + l) == 0
+// A collapse of a side: the end that it keeps, and the one that it removes.
+#[derive(Clone, Copy, Debug, PartialEq, Eq)]
+struct Collapse {
+    keep: usize,
+    remove: usize,
 }
 
-// Whether every label that b carries is one of a's.
-fn covers(carried: usize, a: usize, b: usize, work: &[u32]) -> bool
-    requires { (carried + a * 8 + 8 ≤ length work.now) × (carried + b * 8 + 8 ≤ length work.now) }
-    ensures { Covers work.now carried a b result }
-{
-    let mut l: usize = 0;
-    while l < 8 {
-        if lacks(carried, a, b, l, work) {
+impl Collapse {
+    // What the corner x becomes.
+    fn put(self, x: usize) -> usize
+        ensures { result ≡ Edit.put self.keep self.remove x }
+    {
+        if x == self.remove { self.keep } else { x }
+    }
+}
+
+// What a pass reads: the lists and the terms of their field, the number of points, and where in the work words its areas begin: the chains, the marks of the labels, those of the sides, and the touched corners.
+#[derive(Clone, Copy)]
+pub struct Pass<'a> {
+    pub points: &'a [f64],
+    pub corners: &'a [u32],
+    pub labels: &'a [u8],
+    pub terms: Terms<'a>,
+    pub heads: usize,
+    pub chains: usize,
+    pub carried: usize,
+    pub marks: usize,
+    pub touched: usize,
+}
+
+impl<'a> Pass<'a> {
+    // Whether b carries the label l and a does not.
+    fn lacks(&self, a: usize, b: usize, l: usize, work: &[u32]) -> bool
+        requires { (self.now.carried + a * 8 + l < length work.now) × (self.now.carried + b * 8 + l < length work.now) }
+        ensures { Lacks work.now self.now.carried a b l result }
+    {
+        if word(work, self.carried + b * 8 + l) == 0 {
             return false;
         }
-        l += 1;
+        word(work, self.carried + a * 8 + l) == 0
     }
-    true
-}
 
-// What a collapse makes of the triangles that lose a corner: whether each stays well enough shaped, and where it does the least of their shapes.
-#[derive(Clone, Copy)]
-pub struct Trial {
-    pub valid: bool,
-    pub least: f64,
-}
-
-fn put_for(keep: usize, remove: usize, x: usize) -> usize
-    ensures { result ≡ Edit.put keep remove x }
-{
-    if x == remove { keep } else { x }
-}
-
-// The shape of the triangle i where `remove` becomes `keep`.
-fn moved_score(
-    points: &[f64],
-    corners: &[u32],
-    labels: &[u8],
-    coefficients: &[f64],
-    powers: &[u32],
-    keep: usize,
-    remove: usize,
-    i: usize,
-) -> f64
-    requires survey { Survey points.now corners.now labels.now }
-    requires i_in_bounds { (i < length labels.now) × (On points.now keep) }
-    ensures { result ≡ Scene.score (scene points.now coefficients.now powers.now) (Edit.renamed keep remove (Edit.place (triangles corners.now) i)) (get_or labels.now i 0) }
-{
-    let a = put_for(keep, remove, word(corners, i * 3));
-    let b = put_for(keep, remove, word(corners, i * 3 + 1));
-    let c = put_for(keep, remove, word(corners, i * 3 + 2));
-    score(points, coefficients, powers, a, b, c, labels[i])
-}
-
-// One triangle more, that of the place k of `remove`. One on the side goes, and is not looked at.
-fn try_place(
-    points: &[f64],
-    corners: &[u32],
-    labels: &[u8],
-    coefficients: &[f64],
-    powers: &[u32],
-    keep: usize,
-    remove: usize,
-    k: usize,
-    least: f64,
-) -> Trial
-    requires survey { Survey points.now corners.now labels.now }
-    requires k_in_bounds { (k < length corners.now) × (at corners.now k ≡ remove) × (remove ≡ keep → ⊥) × (On points.now keep) }
-    ensures { Tried (scene points.now coefficients.now powers.now) corners.now labels.now keep remove k least result.valid result.least }
-{
-    if ahead(corners, k) == keep {
-        return Trial { valid: true, least };
-    }
-    if behind(corners, k) == keep {
-        return Trial { valid: true, least };
-    }
-    let i = k / 3;
-    let q = moved_score(
-        points,
-        corners,
-        labels,
-        coefficients,
-        powers,
-        keep,
-        remove,
-        i,
-    );
-    if 0.3 <= q {
-        // No floor is higher: the triangle's own shape need not be known.
-        return Trial {
-            valid: true,
-            least: min(least, q),
-        };
-    }
-    let own = score_at(points, corners, labels, coefficients, powers, i);
-    if q < clamp(own, 0.05, 0.3) {
-        return Trial {
-            valid: false,
-            least,
-        };
-    }
-    Trial {
-        valid: true,
-        least: min(least, q),
-    }
-}
-
-// The triangles of `remove`, in the order of the list.
-fn try_places(
-    points: &[f64],
-    corners: &[u32],
-    labels: &[u8],
-    coefficients: &[f64],
-    powers: &[u32],
-    heads: usize,
-    chains: usize,
-    keep: usize,
-    remove: usize,
-    work: &[u32],
-) -> Trial
-    requires survey { Survey points.now corners.now labels.now }
-    requires walks { Walks corners.now heads work.now chains keep remove (length points.now) }
-    ensures { Trials (scene points.now coefficients.now powers.now) corners.now labels.now keep remove result.valid result.least }
-{
-    let mut least = f64::from_bits(0x7ff0_0000_0000_0000);
-    let mut q = word(work, chains + remove);
-    while q > 0 {
-        let k = q - 1;
-        let t = try_place(
-            points,
-            corners,
-            labels,
-            coefficients,
-            powers,
-            keep,
-            remove,
-            k,
-            least,
-        );
-        if !t.valid {
-            return t;
-        }
-        least = t.least;
-        q = word(work, chains + heads + k);
-    }
-    Trial { valid: true, least }
-}
-
-// The collapse that keeps `keep` and removes `remove`: valid where the labels allow it and the shapes do.
-fn attempt(
-    points: &[f64],
-    corners: &[u32],
-    labels: &[u8],
-    coefficients: &[f64],
-    powers: &[u32],
-    heads: usize,
-    chains: usize,
-    carried: usize,
-    marks: usize,
-    touched: usize,
-    keep: usize,
-    remove: usize,
-    work: &[u32],
-) -> Trial
-    requires ready { Ready points.now corners.now labels.now heads work.now chains carried marks touched }
-    requires keep_lt_heads { (keep < heads) × (remove < heads) × (remove ≡ keep → ⊥) }
-    ensures { Attempt (scene points.now coefficients.now powers.now) corners.now labels.now keep remove result.valid result.least }
-{
-    if covers(carried, keep, remove, work) {
-        return try_places(
-            points,
-            corners,
-            labels,
-            coefficients,
-            powers,
-            heads,
-            chains,
-            keep,
-            remove,
-            work,
-        );
-    }
-    Trial {
-        valid: false,
-        least: 0.0,
-    }
-}
-
-// 1 where the collapse of the side between a and b keeps a, 2 where it keeps b, 0 where there is none.
-fn direction(
-    points: &[f64],
-    corners: &[u32],
-    labels: &[u8],
-    coefficients: &[f64],
-    powers: &[u32],
-    heads: usize,
-    chains: usize,
-    carried: usize,
-    marks: usize,
-    touched: usize,
-    a: usize,
-    b: usize,
-    work: &[u32],
-) -> usize
-    requires ready { Ready points.now corners.now labels.now heads work.now chains carried marks touched }
-    requires a_lt_heads { (a < heads) × (b < heads) × (a ≡ b → ⊥) }
-    ensures { Way (scene points.now coefficients.now powers.now) corners.now labels.now a b result }
-{
-    let one = attempt(
-        points,
-        corners,
-        labels,
-        coefficients,
-        powers,
-        heads,
-        chains,
-        carried,
-        marks,
-        touched,
-        a,
-        b,
-        work,
-    );
-    let two = attempt(
-        points,
-        corners,
-        labels,
-        coefficients,
-        powers,
-        heads,
-        chains,
-        carried,
-        marks,
-        touched,
-        b,
-        a,
-        work,
-    );
-    if one.valid {
-        if two.valid {
-            if one.least < two.least {
-                return 2;
+    // Whether every label that b carries is one of a's.
+    fn covers(&self, a: usize, b: usize, work: &[u32]) -> bool
+        requires { (self.now.carried + a * 8 + 8 ≤ length work.now) × (self.now.carried + b * 8 + 8 ≤ length work.now) }
+        ensures { Covers work.now self.now.carried a b result }
+    {
+        for l in 0..8 {
+            if self.lacks(a, b, l, work) {
+                return false;
             }
-            return 1;
         }
-        return 1;
+        true
     }
-    if two.valid {
-        return 2;
-    }
-    0
-}
 
-// Touches the three corners of the triangle of the place k.
-fn touch(corners: &[u32], points: usize, touched: usize, k: usize, work: &mut [u32])
-    requires lists { Lists corners.now points }
-    requires k_in_bounds { (k < length corners.now) × (touched + points ≤ length work.old) }
-    ensures { work.new ≡ touch_at corners.now touched k work.old }
-{
-    let a = word(corners, k);
-    let b = ahead(corners, k);
-    let c = behind(corners, k);
-    put(work, touched + a, 1);
-    put(work, touched + b, 1);
-    put(work, touched + c, 1);
-}
+    // The shape that a collapse gives the triangle i.
+    fn moved_score(&self, way: Collapse, i: usize) -> f64
+        requires survey { Survey self.now.points.now self.now.corners.now self.now.labels.now }
+        requires i_in_bounds { (i < length self.now.labels.now) × (On self.now.points.now way.keep) }
+        ensures { result ≡ Scene.score (scene_of self.now) (Edit.renamed way.keep way.remove (Edit.place (triangles self.now.corners.now) i)) (get_or self.now.labels.now i 0) }
+    {
+        let a = way.put(word(self.corners, i * 3));
+        let b = way.put(word(self.corners, i * 3 + 1));
+        let c = way.put(word(self.corners, i * 3 + 2));
+        score(self.points, &self.terms, a, b, c, self.labels[i])
+    }
 
-// Touches the corners of the triangles of v.
-fn touch_around(
-    corners: &[u32],
-    points: usize,
-    chains: usize,
-    touched: usize,
-    v: usize,
-    work: &mut [u32],
-)
-    requires walking { Walking corners.now points work.old chains touched }
-    requires v_lt_points { v < points }
-    ensures { work.new ≡ walk (touch_at corners.now touched) corners.now v (length corners.now) work.old }
-{
-    let mut q = word(work, chains + v);
-    while q > 0 {
-        let k = q - 1;
-        touch(corners, points, touched, k, work);
-        q = word(work, chains + points + k);
+    // One triangle more, that of the place k of the removed end: the lesser of its shape and the least before, if it stays well enough shaped. One on the side goes, and is not looked at.
+    fn try_place(&self, way: Collapse, k: usize, least: f64) -> Option<f64>
+        requires survey { Survey self.now.points.now self.now.corners.now self.now.labels.now }
+        requires k_in_bounds { (k < length self.now.corners.now) × (at self.now.corners.now k ≡ way.remove) × (way.remove ≡ way.keep → ⊥) × (On self.now.points.now way.keep) }
+        ensures { result ≡ tried (scene_of self.now) self.now.corners.now self.now.labels.now way.keep way.remove k least }
+    {
+        if ahead(self.corners, k) == way.keep {
+            return Some(least);
+        }
+        if behind(self.corners, k) == way.keep {
+            return Some(least);
+        }
+        let i = k / 3;
+        let q = self.moved_score(way, i);
+        if 0.3 <= q {
+            // No floor is higher: the triangle's own shape need not be known.
+            return Some(min(least, q));
+        }
+        let own = score_at(self.points, self.corners, self.labels, &self.terms, i);
+        if q < clamp(own, 0.05, 0.3) {
+            return None;
+        }
+        Some(min(least, q))
     }
-}
 
-// Notes the collapse of the side of the places k and t that keeps `keep` and removes `remove`.
-fn collapse_side(
-    corners: &[u32],
-    points: usize,
-    chains: usize,
-    touched: usize,
-    keep: usize,
-    remove: usize,
-    k: usize,
-    t: usize,
-    work: &mut [u32],
-)
-    requires walking { Walking corners.now points work.old chains touched }
-    requires keep_lt_points { (keep < points) × (remove < points) × (k < length corners.now) × (t < length corners.now) × (touched + points * 2 + length corners.now / 3 ≤ length work.old) }
-    ensures { work.new ≡ collapsed_words corners.now points touched keep remove k t work.old }
-{
-    touch_around(corners, points, chains, touched, keep, work);
-    touch_around(corners, points, chains, touched, remove, work);
-    put(work, touched + points + remove, keep);
-    put(work, touched + points * 2 + k / 3, 1);
-    put(work, touched + points * 2 + t / 3, 1);
-}
+    // The least shape of the triangles of the removed end, in the order of the list, if each stays well enough shaped.
+    fn try_places(&self, way: Collapse, work: &[u32]) -> Option<f64>
+        requires survey { Survey self.now.points.now self.now.corners.now self.now.labels.now }
+        requires walks { Walks self.now.corners.now self.now.heads work.now self.now.chains way.keep way.remove (length self.now.points.now) }
+        ensures { result ≡ trials (scene_of self.now) self.now.corners.now self.now.labels.now way.keep way.remove }
+    {
+        let mut least = f64::INFINITY;
+        let mut q = word(work, self.chains + way.remove);
+        while q > 0 {
+            let k = q - 1;
+            least = self.try_place(way, k, least)?;
+            q = word(work, self.chains + self.heads + k);
+        }
+        Some(least)
+    }
 
-// Whether the pass may collapse the side of the place k: both ends are untouched, have only the opposite corners in common, and not three triangles each.
-fn may_collapse(
-    points: &[f64],
-    corners: &[u32],
-    labels: &[u8],
-    heads: usize,
-    chains: usize,
-    carried: usize,
-    marks: usize,
-    touched: usize,
-    k: usize,
-    work: &[u32],
-) -> bool
-    requires ready { Ready points.now corners.now labels.now heads work.now chains carried marks touched }
-    requires k_in_bounds { k < length corners.now }
-    ensures { result ≡ may_at corners.now work.now touched k }
-{
-    let a = word(corners, k);
-    let b = ahead(corners, k);
-    if word(work, touched + a) != 0 {
-        return false;
+    // The least shape that a collapse leaves, if the labels allow it and the shapes do.
+    fn attempt(&self, way: Collapse, work: &[u32]) -> Option<f64>
+        requires ready { Prepared self.now work.now }
+        requires keep_lt_heads { (way.keep < self.now.heads) × (way.remove < self.now.heads) × (way.remove ≡ way.keep → ⊥) }
+        ensures { result ≡ attempted (scene_of self.now) (pair_of self.now.corners.now self.now.labels.now) way.keep way.remove }
+    {
+        if !self.covers(way.keep, way.remove, work) {
+            return None;
+        }
+        self.try_places(way, work)
     }
-    if word(work, touched + b) != 0 {
-        return false;
-    }
-    if word(work, marks + k) == 0 {
-        return false;
-    }
-    if word(work, heads + a) == 3 {
-        return word(work, heads + b) != 3;
-    }
-    true
-}
 
-// The side of the place k, tried.
-fn collapse_candidate(
-    points: &[f64],
-    corners: &[u32],
-    labels: &[u8],
-    coefficients: &[f64],
-    powers: &[u32],
-    heads: usize,
-    chains: usize,
-    carried: usize,
-    marks: usize,
-    touched: usize,
-    k: usize,
-    work: &mut [u32],
-)
-    requires ready { Ready points.now corners.now labels.now heads work.old chains carried marks touched }
-    requires k_in_bounds { k < length corners.now }
-    ensures { Advance (scene points.now coefficients.now powers.now) corners.now labels.now heads touched (side_at corners.now k) work.old work.new }
-{
-    if !may_collapse(
-        points, corners, labels, heads, chains, carried, marks, touched, k, work,
-    ) {
-        return;
+    // The collapse of the side between a and b, if there is one: the way that leaves the greater least shape.
+    fn direction(&self, a: usize, b: usize, work: &[u32]) -> Option<Collapse>
+        requires ready { Prepared self.now work.now }
+        requires a_lt_heads { (a < self.now.heads) × (b < self.now.heads) × (a ≡ b → ⊥) }
+        ensures { result ≡ way_of (keeping a b) (keeping b a) (attempted (scene_of self.now) (pair_of self.now.corners.now self.now.labels.now) a b) (attempted (scene_of self.now) (pair_of self.now.corners.now self.now.labels.now) b a) }
+    {
+        let first = Collapse { keep: a, remove: b };
+        let second = Collapse { keep: b, remove: a };
+        match (self.attempt(first, work), self.attempt(second, work)) {
+            (Some(x), Some(y)) => { if x < y { Some(second) } else { Some(first) } }
+            (Some(_), None) => Some(first),
+            (None, Some(_)) => Some(second),
+            (None, None) => None,
+        }
     }
-    let a = word(corners, k);
-    let b = ahead(corners, k);
-    let t = word(work, heads * 3 + corners.len() + k);
-    let way = direction(
-        points,
-        corners,
-        labels,
-        coefficients,
-        powers,
-        heads,
-        chains,
-        carried,
-        marks,
-        touched,
-        a,
-        b,
-        work,
-    );
-    if way == 0 {
-        return;
-    }
-    if way == 1 {
-        collapse_side(corners, heads, chains, touched, a, b, k, t, work);
-        return;
-    }
-    collapse_side(corners, heads, chains, touched, b, a, k, t, work);
-}
 
-// The candidates in their order.
-pub fn collapse_candidates(
-    points: &[f64],
-    corners: &[u32],
-    labels: &[u8],
-    coefficients: &[f64],
-    powers: &[u32],
-    heads: usize,
-    chains: usize,
-    carried: usize,
-    marks: usize,
-    sides: usize,
-    items: usize,
-    count: usize,
-    touched: usize,
-    work: &mut [u32],
-)
-    requires ready { Ready points.now corners.now labels.now heads work.old chains carried marks touched }
-    requires items { Items corners.now work.old sides items count touched }
-    ensures { Passing (scene points.now coefficients.now powers.now) corners.now labels.now heads sides items touched work.old work.new count }
-{
-    let mut j: usize = 0;
-    while j < count {
-        let i = word(work, items + j);
-        let k = word(work, sides + i);
-        collapse_candidate(
-            points,
-            corners,
-            labels,
-            coefficients,
-            powers,
-            heads,
-            chains,
-            carried,
-            marks,
-            touched,
-            k,
-            work,
-        );
-        j += 1;
+    // Touches the three corners of the triangle of the place k.
+    fn touch(&self, k: usize, work: &mut [u32])
+        requires lists { Lists self.now.corners.now self.now.heads }
+        requires k_in_bounds { (k < length self.now.corners.now) × (self.now.touched + self.now.heads ≤ length work.old) }
+        ensures { work.new ≡ touch_at self.now.corners.now self.now.touched k work.old }
+    {
+        let a = word(self.corners, k);
+        let b = ahead(self.corners, k);
+        let c = behind(self.corners, k);
+        put(work, self.touched + a, 1);
+        put(work, self.touched + b, 1);
+        put(work, self.touched + c, 1);
+    }
+
+    // Touches the corners of the triangles of v.
+    fn touch_around(&self, v: usize, work: &mut [u32])
+        requires walking { Walking self.now.corners.now self.now.heads work.old self.now.chains self.now.touched }
+        requires v_lt_points { v < self.now.heads }
+        ensures { work.new ≡ walk (touch_at self.now.corners.now self.now.touched) self.now.corners.now v (length self.now.corners.now) work.old }
+    {
+        let mut q = word(work, self.chains + v);
+        while q > 0 {
+            let k = q - 1;
+            self.touch(k, work);
+            q = word(work, self.chains + self.heads + k);
+        }
+    }
+
+    // Notes the collapse of the side of the places k and t.
+    fn collapse_side(&self, way: Collapse, k: usize, t: usize, work: &mut [u32])
+        requires walking { Walking self.now.corners.now self.now.heads work.old self.now.chains self.now.touched }
+        requires keep_lt_points { (way.keep < self.now.heads) × (way.remove < self.now.heads) × (k < length self.now.corners.now) × (t < length self.now.corners.now) × (self.now.touched + self.now.heads * 2 + length self.now.corners.now / 3 ≤ length work.old) }
+        ensures { work.new ≡ collapsed_words self.now.corners.now self.now.heads self.now.touched way.keep way.remove k t work.old }
+    {
+        self.touch_around(way.keep, work);
+        self.touch_around(way.remove, work);
+        put(work, self.touched + self.heads + way.remove, way.keep);
+        put(work, self.touched + self.heads * 2 + k / 3, 1);
+        put(work, self.touched + self.heads * 2 + t / 3, 1);
+    }
+
+    // Whether the pass may collapse the side of the place k: both ends are untouched, have only the opposite corners in common, and not three triangles each.
+    fn may_collapse(&self, k: usize, work: &[u32]) -> bool
+        requires ready { Prepared self.now work.now }
+        requires k_in_bounds { k < length self.now.corners.now }
+        ensures { result ≡ may_at self.now.corners.now work.now self.now.touched k }
+    {
+        let a = word(self.corners, k);
+        let b = ahead(self.corners, k);
+        if word(work, self.touched + a) != 0 {
+            return false;
+        }
+        if word(work, self.touched + b) != 0 {
+            return false;
+        }
+        if word(work, self.marks + k) == 0 {
+            return false;
+        }
+        if word(work, self.heads + a) == 3 {
+            return word(work, self.heads + b) != 3;
+        }
+        true
+    }
+
+    // The side of the place k, tried.
+    fn collapse_candidate(&self, k: usize, work: &mut [u32])
+        requires ready { Prepared self.now work.old }
+        requires k_in_bounds { k < length self.now.corners.now }
+        ensures { Advance (scene_of self.now) self.now.corners.now self.now.labels.now self.now.heads self.now.touched (side_at self.now.corners.now k) work.old work.new }
+    {
+        if !self.may_collapse(k, work) {
+            return;
+        }
+        let a = word(self.corners, k);
+        let b = ahead(self.corners, k);
+        let t = word(work, self.heads * 3 + self.corners.len() + k);
+        if let Some(way) = self.direction(a, b, work) {
+            self.collapse_side(way, k, t, work);
+        }
+    }
+
+    // The candidates in their order.
+    pub fn collapse_candidates(&self, sides: usize, items: usize, count: usize, work: &mut [u32])
+        requires ready { Prepared self.now work.old }
+        requires items { Items self.now.corners.now work.old sides items count self.now.touched }
+        ensures { Passing (scene_of self.now) self.now.corners.now self.now.labels.now self.now.heads sides items self.now.touched work.old work.new count }
+    {
+        for j in 0..count {
+            let i = word(work, items + j);
+            let k = word(work, sides + i);
+            self.collapse_candidate(k, work);
+        }
     }
 }

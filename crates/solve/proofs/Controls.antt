@@ -7,9 +7,10 @@ use Rattle.float.specs.declared.Point.{Point}
 use Rattle.float.specs.Point.{less}
 use Rattle.float.specs.Order.{is_finite, greater}
 use Rattle.field.specs.Sheet.{power, value_sum}
-use Rattle.lattice.specs.Values.{magnitude}
+use Rattle.std.specs.Prelude.{Option, Some, None}
+use Rattle.std.specs.Float.{float_with_sign}
 use Rattle.solve.specs.declared.Cut.{Cut}
-use Rattle.solve.specs.declared.Cut.TheVariants.{First, Second, At, NotFinite}
+use Rattle.solve.specs.declared.Cut.TheVariants.{First, Second, At}
 use Rattle.solve.specs.declared.Solved.{Solved}
 use Rattle.solve.specs.Solve.{signum, edge_scale, point_between, residual, halves?, parameter, narrowed, from_round, solve}
 
@@ -30,11 +31,11 @@ abbrev point : ℕ × ℕ × ℕ → Point
 point p = record { x = bits p.0; y = bits p.1; z = bits p.2 }
 
 -- 1 for the first node, 2 for the second, 3 for a residual that is not finite, the point's x, y and z and the parameter for one between them; and then the count
-abbrev shown : Point → Point → Cut → ℕ → List ℕ
-shown a b First n = 1 ∷ n ∷ []
-shown a b Second n = 2 ∷ n ∷ []
-shown a b NotFinite n = 3 ∷ n ∷ []
-shown a b (At t) n = let p = point_between a b t in to_bits binary64 p.x ∷ to_bits binary64 p.y ∷ to_bits binary64 p.z ∷ to_bits binary64 t ∷ n ∷ []
+abbrev shown : Point → Point → Option Cut → ℕ → List ℕ
+shown a b (Some First) n = 1 ∷ n ∷ []
+shown a b (Some Second) n = 2 ∷ n ∷ []
+shown a b None n = 3 ∷ n ∷ []
+shown a b (Some (At t)) n = let p = point_between a b t in to_bits binary64 p.x ∷ to_bits binary64 p.y ∷ to_bits binary64 p.z ∷ to_bits binary64 t ∷ n ∷ []
 
 abbrev answer : Point → Point → Solved → List ℕ
 answer a b s = shown a b s.cut s.taken
@@ -83,5 +84,5 @@ answers =
     []
 
 pub controls : map solved edges ≡ answers
-unfolding edges answers solve from_round parameter halves? narrowed residual edge_scale magnitude signum value_sum power of_bits to_bits neg add sub mul div lt le eq is_nan is_finite greater
+unfolding edges answers solve from_round parameter halves? narrowed residual edge_scale float_with_sign signum value_sum power of_bits to_bits neg add sub mul div lt le eq is_nan is_finite greater
 controls = refl

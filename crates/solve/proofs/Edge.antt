@@ -14,9 +14,9 @@ use Rattle.float.specs.Order.{is_finite}
 use Rattle.field.specs.Number.{plus_zero}
 use Rattle.lattice.specs.Values.{magnitude, tolerance}
 use Rattle.solve.specs.declared.bracket.Bracket.{Bracket}
-use Rattle.solve.specs.declared.Cut.TheVariants.{First, Second, At, NotFinite}
+use Rattle.solve.specs.declared.Cut.TheVariants.{First, Second, At}
 use Rattle.solve.specs.declared.Solved.{Solved}
-use Rattle.solve.specs.Solve.{same_sign, edge_scale, parameter, narrowed, ending, from_round, first_bracket, solve}
+use Rattle.solve.specs.Solve.{same_sign, edge_scale, parameter, narrowed, ending, failing, from_round, first_bracket, solve}
 use Rattle.solve.specs.Laws.{CrossedValues, Bracketed, SearchEnds, EdgeEnds, tried, parameters, SolveLaws}
 use Rattle.solve.proofs.Turns.{first_not_finite, second_not_finite, first_on, second-on, in_rounds}
 use Rattle.solve.proofs.Signs.{bracketed}
@@ -84,7 +84,7 @@ module _ (residual : Float → Float) (limit va : Float) where
       one_more : (n l : ℕ) → n ≡ round + 1 + l → n ≡ round + suc l
       one_more n l e = omega arith
 
-      go : Counts left (round + 1) s ts → (f m : Bool) → Counts (suc left) round (cond f (cond m (ending (At t) (round + 1)) s) (ending NotFinite (round + 1))) (t ∷ cond f (cond m [] ts) [])
+      go : Counts left (round + 1) s ts → (f m : Bool) → Counts (suc left) round (cond f (cond m (ending (At t) (round + 1)) s) (failing (round + 1))) (t ∷ cond f (cond m [] ts) [])
       go again false m = (refl, suc-le-suc zero-le)
       go again true true = (refl, suc-le-suc zero-le)
       go again true false = (one_more s.taken (length ts) again.0, suc-le-suc again.1)
@@ -98,7 +98,7 @@ module _ (residual : Float → Float) (level va vb : Float) where
       limit = tolerance (edge_scale va vb level)
 
       go : (f x y : Bool)
-          → Counts 52 0 (cond f (cond x (ending First 0) (cond y (ending Second 0) (from_round residual limit va 52 0 (first_bracket va vb)))) (ending NotFinite 0))
+          → Counts 52 0 (cond f (cond x (ending First 0) (cond y (ending Second 0) (from_round residual limit va 52 0 (first_bracket va vb)))) (failing 0))
           (cond f (cond x [] (cond y [] (tried residual limit va 52 0 (first_bracket va vb)))) [])
       go false x y = (refl, zero-le)
       go true true y = (refl, zero-le)

@@ -17,6 +17,7 @@ use Rattle.float.specs.Order.{is_finite, greater}
 use Rattle.field.specs.Number.{plus_zero, one}
 use Rattle.rounding.proofs.Compared.{lt_values, eq-values, level_same}
 use Rattle.rounding.proofs.Exactness.{size-signed}
+use Rattle.std.specs.Float.{float_with_sign}
 use Rattle.lattice.specs.Values.{sixty_four, epsilon, least_normal, magnitude, tolerance}
 use Rattle.solve.specs.Solve.{signum, same_sign, edge_scale}
 use Rattle.solve.specs.Laws.{Opposite}
@@ -146,7 +147,7 @@ limit-plus va vb level =
 -- ---- so a zero is within it
 
 zero-meets : (x limit : Float) → is_finite x ≡ true → eq x plus_zero ≡ true → minus? limit ≡ false → le (magnitude x) limit ≡ true
-unfolding is_finite magnitude minus? le
+unfolding is_finite float_with_sign minus? le
 zero-meets nan limit p z s = absurd (false≢true p)
 zero-meets (inf t) limit p z s = absurd (false≢true p)
 zero-meets (fin t m e) nan p z s = absurd (true≢false s)

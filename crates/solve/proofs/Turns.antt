@@ -1,55 +1,35 @@
 -- Which case of the definitions the tests of the code pick: a parameter, a half, and one turn of the search. Assumes nothing.
-use mathlib.Core.Path.{◌≡◌, refl, sym, ap, ap₂, ◌∙◌, subst}
-use mathlib.Core.Bool.{Bool, true, false, not, ◌||◌, ◌&&◌, cond, false≢true}
-use Prim.Native.Nat.{ℕ, zero, suc, ◌+◌, ◌-◌, ◌/◌, ◌%◌, ◌≤◌, ◌<◌}
+use mathlib.Core.Path.{◌≡◌, refl, sym, ap, ap₂, ◌∙◌}
+use mathlib.Core.Bool.{Bool, true, false, not, ◌||◌, ◌&&◌, cond}
+use Prim.Native.Nat.{ℕ, zero, suc, ◌+◌, ◌-◌, ◌%◌, ◌≤◌, ◌<◌}
 use native.Mathlib.Omega.{arith}
-use lib.Dec.{T, leb, eqb}
 use borrow.Author.Tests.{le-leb, lt-leb, eq-eqb, ne_eqb}
 use lib.Ieee as Ieee
-use lib.Ieee.{Float, nan, inf, fin, Format, binary64, of_bits, to_bits, of_fields, odd, fits, is_nan, ne, top, hid, ones}
-use lib.Ieee.Bits.{of_bits-to_bits}
+use lib.Ieee.{Float, nan, inf, fin, Format, binary64, of_bits, to_bits, neg, odd}
+use Rattle.std.specs.Float.{float_signum}
 use Rattle.float.specs.Order.{is_finite}
-use Rattle.float.proofs.Cases.{no_nan, is_nan_lem}
 use Rattle.field.specs.Number.{plus_zero, one, minus_one}
 use Rattle.lattice.specs.Values.{magnitude, tolerance}
 use Rattle.solve.specs.declared.bracket.Bracket.{Bracket}
-use Rattle.solve.specs.declared.Cut.TheVariants.{First, Second, At, NotFinite}
+use Rattle.solve.specs.declared.Cut.TheVariants.{First, Second, At}
 use Rattle.solve.specs.declared.Solved.{Solved}
-use Rattle.solve.specs.Solve.{signum, same_sign, edge_scale, secant, midway, halves?, parameter, narrowed, ending, from_round, first_bracket, solve}
+use Rattle.solve.specs.Solve.{signum, same_sign, edge_scale, secant, midway, halves?, parameter, narrowed, ending, failing, from_round, first_bracket, solve}
 
 -- ---- signs
 
-pub signum_nan : (x : Float) → ne x x ≡ true → x ≡ signum x
-unfolding signum is_nan
-signum_nan x e = go x (is_nan_lem x e)
-  where
-    go : (y : Float) → is_nan y ≡ true → y ≡ signum y
-    go nan h = refl
-    go (inf s) h = absurd (false≢true h)
-    go (fin s m k) h = absurd (false≢true h)
+pub signum_is : (x : Float) → float_signum x ≡ signum x
+unfolding float_signum signum of_bits neg
+signum_is nan = refl
+signum_is (inf true) = refl
+signum_is (inf false) = refl
+signum_is (fin true m e) = refl
+signum_is (fin false m e) = refl
 
 -- what is read of a sign and fields has that sign, unless it is NaN
 pub signum_odd : (d : ℕ) (s : Bool) (q k l : ℕ) → signum (odd d s q k l) ≡ cond s minus_one one
 unfolding signum odd
 signum_odd d s zero k l = refl
 signum_odd d s (suc q) k l = refl
-
-signum-fields : (f : Format) (s : Bool) (x t : ℕ) → T (not (is_nan (of_fields f s x t))) → signum (of_fields f s x t) ≡ cond s minus_one one
-unfolding signum of_fields is_nan
-signum-fields f s zero t h = signum_odd (Ieee.prec f) s t 0 (Ieee.low f)
-signum-fields f s (suc x) t h = go (eqb (suc x) (ones f)) (eqb t 0) h
-  where
-    go : (a b : Bool) → T (not (is_nan (cond a (cond b (inf s) nan) (odd (Ieee.prec f) s (hid f + t) x (Ieee.low f))))) → signum (cond a (cond b (inf s) nan) (odd (Ieee.prec f) s (hid f + t) x (Ieee.low f))) ≡ cond s minus_one one
-    go true true h = refl
-    go true false h = absurd h
-    go false b h = signum_odd (Ieee.prec f) s (hid f + t) x (Ieee.low f)
-
-pub signum_bits : (x : Float) → T (fits binary64 x) → ne x x ≡ false → (s : Bool) → leb (top binary64) (to_bits binary64 x) ≡ s → cond s minus_one one ≡ signum x
-unfolding of_bits
-signum_bits x h n s e =
-    sym (ap signum (sym (of_bits-to_bits binary64 x h))
-    ∙ signum-fields binary64 (leb (top binary64) (to_bits binary64 x)) (to_bits binary64 x % top binary64 / hid binary64) (to_bits binary64 x % hid binary64) (subst (λ (y : Float). T (not (is_nan y))) (sym (of_bits-to_bits binary64 x h)) (no_nan x n))
-    ∙ ap (λ (b : Bool). cond b minus_one one) e)
 
 -- ---- a round's parameter
 
@@ -97,7 +77,7 @@ module _ (k : Bracket) (va t v : Float) where
 module _ (residual : Float → Float) (limit va : Float) where
   pub turn : (left round : ℕ) (k : Bracket) (f m : Bool) → is_finite (residual (parameter round k)) ≡ f → Ieee.le (magnitude (residual (parameter round k))) limit ≡ m
       → from_round residual limit va (suc left) round k
-      ≡ cond f (cond m (ending (At (parameter round k)) (round + 1)) (from_round residual limit va left (round + 1) (narrowed k va (parameter round k) (residual (parameter round k))))) (ending NotFinite (round + 1))
+      ≡ cond f (cond m (ending (At (parameter round k)) (round + 1)) (from_round residual limit va left (round + 1) (narrowed k va (parameter round k) (residual (parameter round k))))) (failing (round + 1))
   unfolding from_round
   turn left round k f m a b = rw (a, b) refl
 
@@ -113,14 +93,14 @@ module _ (residual : Float → Float) (limit va : Float) where
     is = ev ∙ ap residual et
 
     opened : (f m : Bool) → is_finite v ≡ f → Ieee.le (magnitude v) limit ≡ m
-        → onward round k ≡ cond f (cond m (ending (At t) (round + 1)) (onward (round + 1) (narrowed k va t v))) (ending NotFinite (round + 1))
+        → onward round k ≡ cond f (cond m (ending (At t) (round + 1)) (onward (round + 1) (narrowed k va t v))) (failing (round + 1))
     unfolding onward
     opened f m a b =
         ap (λ (n : ℕ). from_round residual limit va n round k) (more round h)
         ∙ turn (52 - (round + 1)) round k f m (ap is_finite (sym is) ∙ a) (ap (λ (x : Float). Ieee.le (magnitude x) limit) (sym is) ∙ b)
-        ∙ ap₂ (λ (x y : Float). cond f (cond m (ending (At x) (round + 1)) (from_round residual limit va (52 - (round + 1)) (round + 1) (narrowed k va x y))) (ending NotFinite (round + 1))) (sym et) (sym is)
+        ∙ ap₂ (λ (x y : Float). cond f (cond m (ending (At x) (round + 1)) (from_round residual limit va (52 - (round + 1)) (round + 1) (narrowed k va x y))) (failing (round + 1))) (sym et) (sym is)
 
-    pub turn_not_finite : is_finite v ≡ false → onward round k ≡ ending NotFinite (round + 1)
+    pub turn_not_finite : is_finite v ≡ false → onward round k ≡ failing (round + 1)
     turn_not_finite a = opened false (Ieee.le (magnitude v) limit) a refl
 
     pub turn_found : is_finite v ≡ true → Ieee.le (magnitude v) limit ≡ true → onward round k ≡ ending (At t) (round + 1)
@@ -129,9 +109,9 @@ module _ (residual : Float → Float) (limit va : Float) where
     pub turn_again : is_finite v ≡ true → Ieee.le (magnitude v) limit ≡ false → onward round k ≡ onward (round + 1) (narrowed k va t v)
     turn_again a b = opened true false a b
 
-  pub turn_last : (round : ℕ) (k : Bracket) (t : Float) → round ≡ 52 → t ≡ midway k → onward round k ≡ ending (At t) round
+  pub turn_last : (round : ℕ) (k : Bracket) (t : Float) → round ≡ 52 → t ≡ midway k → onward round k ≡ ending (At t) 52
   unfolding onward from_round
-  turn_last round k t h e = ap (λ (n : ℕ). from_round residual limit va (52 - n) round k) h ∙ ap (λ (x : Float). ending (At x) round) (sym e)
+  turn_last round k t h e = ap (λ (n : ℕ). onward n k) h ∙ ap (λ (x : Float). ending (At x) 52) (sym e)
 
 pub begins : (residual : Float → Float) (limit va : Float) (k : Bracket) → onward residual limit va 0 k ≡ from_round residual limit va 52 0 k
 unfolding onward
@@ -141,15 +121,15 @@ begins residual limit va k = refl
 
 module _ (residual : Float → Float) (level va vb : Float) where
   by_tests : (f g x y : Bool) → is_finite va ≡ f → is_finite vb ≡ g → Ieee.eq va plus_zero ≡ x → Ieee.eq vb plus_zero ≡ y
-      → cond (f && g) (cond x (ending First 0) (cond y (ending Second 0) (from_round residual (tolerance (edge_scale va vb level)) va 52 0 (first_bracket va vb)))) (ending NotFinite 0) ≡ solve residual level va vb
+      → cond (f && g) (cond x (ending First 0) (cond y (ending Second 0) (from_round residual (tolerance (edge_scale va vb level)) va 52 0 (first_bracket va vb)))) (failing 0) ≡ solve residual level va vb
   unfolding solve
   by_tests f g x y p q r s = rw (p, q, r, s) refl
 
-  pub first_not_finite : is_finite va ≡ false → ending NotFinite 0 ≡ solve residual level va vb
+  pub first_not_finite : is_finite va ≡ false → failing 0 ≡ solve residual level va vb
   first_not_finite p = by_tests false (is_finite vb) (Ieee.eq va plus_zero) (Ieee.eq vb plus_zero) p refl refl refl
 
   module _ (fa : is_finite va ≡ true) where
-    pub second_not_finite : is_finite vb ≡ false → ending NotFinite 0 ≡ solve residual level va vb
+    pub second_not_finite : is_finite vb ≡ false → failing 0 ≡ solve residual level va vb
     second_not_finite q = by_tests true false (Ieee.eq va plus_zero) (Ieee.eq vb plus_zero) fa q refl refl
 
     module _ (fb : is_finite vb ≡ true) where

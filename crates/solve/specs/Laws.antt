@@ -1,16 +1,16 @@
 -- What is shown of an edge's cut (document 02, F-7), for any residual: `solve-laws` of `proofs/Edge` proves it. Definitions only.
 use Rattle.std.specs.Prelude.{ℕ, zero, suc, ◌+◌, ◌≤◌, ◌≡◌, ◌⊎◌, true, false, ◌&&◌, cond, List, [], ◌∷◌, T, length, Float}
 use Rattle.std.specs.Float.Ieee as Ieee
-use Rattle.std.specs.Float.{binary64}
+use Rattle.std.specs.Float.{binary64, float_with_sign}
 use Rattle.std.specs.Float.Ieee.{fits}
 use Rattle.float.specs.Point.{less}
 use Rattle.float.specs.Order.{is_finite}
 use Rattle.field.specs.Number.{plus_zero, one}
 use Rattle.lattice.specs.Values.{magnitude, tolerance}
 use Rattle.solve.specs.declared.bracket.Bracket.{Bracket}
-use Rattle.solve.specs.declared.Cut.TheVariants.{First, Second, At, NotFinite}
+use Rattle.solve.specs.declared.Cut.TheVariants.{First, Second, At}
 use Rattle.solve.specs.declared.Solved.{Solved}
-use Rattle.solve.specs.Solve.{same_sign, edge_scale, midway, parameter, narrowed, ending, first_bracket, solve}
+use Rattle.solve.specs.Solve.{same_sign, edge_scale, midway, parameter, narrowed, ending, failing, first_bracket, solve}
 
 -- a listed edge: of its nodes' values one is below the level and the other is not, all three finite
 pub record CrossedValues (first second level : Float) : Type 0 where
@@ -66,7 +66,7 @@ pub record Failed (residual : Float → Float) (s : Solved) : Type 0 where
   pub fails : is_finite (residual t) ≡ false
   pub taken : ℕ
   pub few : taken ≤ 52
-  pub is : s ≡ ending NotFinite taken
+  pub is : s ≡ failing taken
 
 abbrev pub SearchEnds : (residual : Float → Float) (limit va vb : Float) → Solved → Type 0
 SearchEnds residual limit va vb s = ToleranceMet residual limit s ⊎ Halved residual va vb s ⊎ Failed residual s
@@ -85,7 +85,7 @@ pub record OnSecond (second level : Float) (s : Solved) : Type 0 where
 -- a node's residual is not finite
 pub record NodeFailed (va vb : Float) (s : Solved) : Type 0 where
   pub fails : (is_finite va ≡ false) ⊎ (is_finite vb ≡ false)
-  pub is : s ≡ ending NotFinite 0
+  pub is : s ≡ failing 0
 
 -- by the values at its nodes and the level
 abbrev pub EdgeEnds : (residual : Float → Float) (first second level : Float) → Solved → Type 0
@@ -96,7 +96,7 @@ EdgeEnds residual first second level s =
 -- ---- the field values that are taken: their parameters in order
 
 unfoldable pub tried : (residual : Float → Float) (limit va : Float) → ℕ → ℕ → Bracket → List Float
-unfolding magnitude parameter narrowed is_finite
+unfolding float_with_sign parameter narrowed is_finite
 tried residual limit va zero round k = []
 tried residual limit va (suc left) round k =
     let t = parameter round k in

@@ -1,9 +1,9 @@
 -- Where a level cuts the edge between two points (document 02, F-7), round by round as the Rust's `solve` has it. Definitions only.
 -- A residual is a field value less the level. The residuals at the two ends are those of the nodes' values; the search takes at most 52 further field values, one a round.
 -- The search is defined for any residual, as a function of the parameter t: 0 at the first node, 1 at the second.
-use Rattle.std.specs.Prelude.{ℕ, zero, suc, ◌+◌, ◌%◌, Bool, not, ◌||◌, ◌&&◌, cond, List, leb, eqb, Float}
+use Rattle.std.specs.Prelude.{ℕ, zero, suc, ◌+◌, ◌%◌, Bool, not, ◌||◌, ◌&&◌, cond, List, leb, eqb, Float, Some, None}
 use Rattle.std.specs.Float.Ieee as Ieee
-use Rattle.std.specs.Float.{nan, inf, fin, binary64}
+use Rattle.std.specs.Float.{nan, inf, fin, binary64, float_with_sign}
 use Rattle.std.specs.Float.Ieee.{of_bits}
 use Rattle.float.specs.declared.Point.{Point}
 use Rattle.float.specs.Point.{plus, less, times}
@@ -13,7 +13,7 @@ use Rattle.field.specs.Sheet.{value_sum, value}
 use Rattle.lattice.specs.Values.{least_normal, magnitude, tolerance}
 use Rattle.solve.specs.declared.bracket.Bracket.{Bracket}
 use Rattle.solve.specs.declared.Cut.{Cut}
-use Rattle.solve.specs.declared.Cut.TheVariants.{First, Second, At, NotFinite}
+use Rattle.solve.specs.declared.Cut.TheVariants.{First, Second, At}
 use Rattle.solve.specs.declared.Solved.{Solved}
 
 -- ---- numbers
@@ -32,7 +32,7 @@ same_sign x y = Ieee.eq (signum x) (signum y)
 
 -- the greatest of |va|, |vb|, |level| and 2^-1022
 unfoldable pub edge_scale : Float → Float → Float → Float
-unfolding magnitude greater
+unfolding float_with_sign greater
 edge_scale va vb level = greater (greater (greater (magnitude va) (magnitude vb)) (magnitude level)) least_normal
 
 -- ---- the point of a parameter, and the field's residual there
@@ -79,17 +79,20 @@ narrowed k va t v =
 -- A residual that is not finite ends the search, and so does one within the limit; after the last round the midpoint is taken.
 
 abbrev pub ending : Cut → ℕ → Solved
-ending cut taken = record { cut = cut; taken = taken }
+ending cut taken = record { cut = Some cut; taken = taken }
+
+abbrev pub failing : ℕ → Solved
+failing taken = record { cut = None; taken = taken }
 
 unfoldable pub from_round : (residual : Float → Float) (limit va : Float) → ℕ → ℕ → Bracket → Solved
-unfolding magnitude parameter narrowed is_finite
+unfolding float_with_sign parameter narrowed is_finite
 from_round residual limit va zero round k = ending (At (midway k)) round
 from_round residual limit va (suc left) round k =
     let t = parameter round k in
     let v = residual t in
     cond (is_finite v)
     (cond (Ieee.le (magnitude v) limit) (ending (At t) (round + 1)) (from_round residual limit va left (round + 1) (narrowed k va t v)))
-    (ending NotFinite (round + 1))
+    (failing (round + 1))
 
 abbrev pub first_bracket : Float → Float → Bracket
 first_bracket va vb = record { lo = plus_zero; hi = one; flo = va; fhi = vb }
@@ -103,4 +106,4 @@ solve residual level va vb =
     (cond (Ieee.eq va plus_zero) (ending First 0)
     (cond (Ieee.eq vb plus_zero) (ending Second 0)
     (from_round residual (tolerance (edge_scale va vb level)) va 52 0 (first_bracket va vb))))
-    (ending NotFinite 0)
+    (failing 0)

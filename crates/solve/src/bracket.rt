@@ -4,7 +4,7 @@ ghost use Rattle.std.specs.Prelude.{◌≡◌};
 ghost use Rattle.solve.specs.Solve as Solve;
 
 // The parameters at its two ends, and the residuals there.
-#[derive(Clone, Copy)]
+#[derive(Clone, Copy, Debug, PartialEq)]
 pub struct Bracket {
     pub lo: f64,
     pub hi: f64,
@@ -12,70 +12,49 @@ pub struct Bracket {
     pub fhi: f64,
 }
 
-// Rust's f64::signum: 1 or -1 by the sign bit, and NaN of NaN.
-fn signum(x: f64) -> f64
-    ensures { result ≡ Solve.signum x }
-{
-    if x != x {
-        return x;
+impl Bracket {
+    fn secant(self) -> f64
+        ensures { result ≡ Solve.secant self }
+    {
+        self.lo - self.flo * (self.hi - self.lo) / (self.fhi - self.flo)
     }
-    if f64::to_bits(x) >= 0x8000_0000_0000_0000 {
-        return -1.0;
-    }
-    1.0
-}
 
-fn secant(k: Bracket) -> f64
-    ensures { result ≡ Solve.secant k }
-{
-    k.lo - k.flo * (k.hi - k.lo) / (k.fhi - k.flo)
-}
+    pub fn midway(self) -> f64
+        ensures { result ≡ Solve.midway self }
+    {
+        (self.lo + self.hi) * 0.5
+    }
 
-pub fn midway(k: Bracket) -> f64
-    ensures { result ≡ Solve.midway k }
-{
-    (k.lo + k.hi) * 0.5
-}
+    // The parameter that a round tries.
+    pub fn parameter(self, round: u64) -> f64
+        ensures { result ≡ Solve.parameter round self }
+    {
+        if round >= 12 || round % 4 == 3 {
+            return self.midway();
+        }
+        let s = self.secant();
+        if !float::is_finite(s) || s <= self.lo || s >= self.hi {
+            return self.midway();
+        }
+        s
+    }
 
-// The parameter that a round tries.
-pub fn parameter(round: u64, k: Bracket) -> f64
-    ensures { result ≡ Solve.parameter round k }
-{
-    if round >= 12 {
-        return midway(k);
-    }
-    if round % 4 == 3 {
-        return midway(k);
-    }
-    let s = secant(k);
-    if !float::is_finite(s) {
-        return midway(k);
-    }
-    if s <= k.lo {
-        return midway(k);
-    }
-    if s >= k.hi {
-        return midway(k);
-    }
-    s
-}
-
-// The half that a residual v at t leaves, where va is the first node's.
-pub fn narrowed(k: Bracket, va: f64, t: f64, v: f64) -> Bracket
-    ensures { result ≡ Solve.narrowed k va t v }
-{
-    if signum(v) == signum(va) {
-        return Bracket {
-            lo: t,
-            hi: k.hi,
-            flo: v,
-            fhi: k.fhi,
-        };
-    }
-    Bracket {
-        lo: k.lo,
-        hi: t,
-        flo: k.flo,
-        fhi: v,
+    // The half that a residual v at t leaves, where va is the first node's.
+    pub fn narrowed(self, va: f64, t: f64, v: f64) -> Bracket
+        ensures { result ≡ Solve.narrowed self va t v }
+    {
+        if v.signum() == va.signum() {
+            Bracket {
+                lo: t,
+                flo: v,
+                ..self
+            }
+        } else {
+            Bracket {
+                hi: t,
+                fhi: v,
+                ..self
+            }
+        }
     }
 }

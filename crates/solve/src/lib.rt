@@ -7,23 +7,24 @@ ghost use Rattle.std.specs.Prelude.{◌≡◌};
 ghost use Rattle.float.specs.Point.{less};
 ghost use Rattle.solve.specs.Solve as Solve;
 
-use bracket::{Bracket, midway, narrowed, parameter};
+use bracket::Bracket;
+use field::Terms;
 use float::Point;
-use lattice::levels::{magnitude, tolerance};
+use lattice::levels::tolerance;
 
-// What an edge ends with: its first node, its second node, a parameter between them, or a residual that is not finite.
-#[derive(Clone, Copy)]
+// What an edge ends with: its first node, its second node, or a parameter between them.
+#[derive(Clone, Copy, Debug, PartialEq)]
 pub enum Cut {
     First,
     Second,
     At(f64),
-    NotFinite,
 }
 
-// The cut, and how many field values were taken for it.
-#[derive(Clone, Copy)]
+// The cut, none where a residual is not finite, and how many field values were taken for it (also
+// where there is none: at most 52 are taken).
+#[derive(Clone, Copy, Debug, PartialEq)]
 pub struct Solved {
-    pub cut: Cut,
+    pub cut: Option<Cut>,
     pub taken: u64,
 }
 
@@ -31,11 +32,8 @@ pub struct Solved {
 fn edge_scale(va: f64, vb: f64, level: f64) -> f64
     ensures { result ≡ Solve.edge_scale va vb level }
 {
-    let larger = float::max(magnitude(va), magnitude(vb));
-    float::max(
-        float::max(larger, magnitude(level)),
-        2.2250738585072014e-308,
-    )
+    let larger = float::max(va.abs(), vb.abs());
+    float::max(float::max(larger, level.abs()), f64::MIN_POSITIVE)
 }
 
 // The point with the parameter t between a and b.
@@ -49,95 +47,83 @@ pub fn point_between(a: Point, b: Point, t: f64) -> Point
     }
 }
 
-// The field's value there, less the level.
-fn residual(coefficients: &[f64], powers: &[u32], a: Point, b: Point, level: f64, t: f64) -> f64
-    ensures { result ≡ Solve.residual coefficients.now powers.now a b level t }
-{
-    field::value(coefficients, powers, point_between(a, b, t)) - level
-}
-
-// The rounds, from the bracket of the two nodes.
-fn take_rounds(
-    coefficients: &[f64],
-    powers: &[u32],
+// A segment from a to b in a field, and the level that cuts it.
+#[derive(Clone, Copy)]
+struct Segment<'a> {
+    terms: &'a Terms<'a>,
     a: Point,
     b: Point,
     level: f64,
-    limit: f64,
-    first: Bracket,
-) -> Solved
-    ensures { result ≡ Solve.from_round (Solve.residual coefficients.now powers.now a b level) limit first.flo 52 0 first }
-{
-    let mut k = first;
-    let mut round: u64 = 0;
-    while round < 52 {
-        let t = parameter(round, k);
-        let v = residual(coefficients, powers, a, b, level, t);
-        if !float::is_finite(v) {
-            return Solved {
-                cut: Cut::NotFinite,
-                taken: round + 1,
-            };
-        }
-        if magnitude(v) <= limit {
-            return Solved {
-                cut: Cut::At(t),
-                taken: round + 1,
-            };
-        }
-        k = narrowed(k, first.flo, t, v);
-        round += 1;
+}
+
+impl<'a> Segment<'a> {
+    // The field's value at the parameter t, less the level.
+    fn residual(&self, t: f64) -> f64
+        ensures { result ≡ Solve.residual self.now.terms.now.coefficients.now self.now.terms.now.powers.now self.now.a self.now.b self.now.level t }
+    {
+        self.terms.value(point_between(self.a, self.b, t)) - self.level
     }
-    Solved {
-        cut: Cut::At(midway(k)),
-        taken: round,
+
+    // The rounds, from the bracket of the two nodes.
+    fn take_rounds(&self, limit: f64, first: Bracket) -> Solved
+        ensures { result ≡ Solve.from_round (Solve.residual self.now.terms.now.coefficients.now self.now.terms.now.powers.now self.now.a self.now.b self.now.level) limit first.flo 52 0 first }
+    {
+        let mut k = first;
+        for round in 0..52 {
+            let t = k.parameter(round);
+            let v = self.residual(t);
+            if !float::is_finite(v) {
+                return Solved {
+                    cut: None,
+                    taken: round + 1,
+                };
+            }
+            if v.abs() <= limit {
+                return Solved {
+                    cut: Some(Cut::At(t)),
+                    taken: round + 1,
+                };
+            }
+            k = k.narrowed(first.flo, t, v);
+        }
+        Solved {
+            cut: Some(Cut::At(k.midway())),
+            taken: 52,
+        }
     }
 }
 
 // Where the level cuts the edge from a to b, by the values at these two nodes.
-pub fn solve(
-    coefficients: &[f64],
-    powers: &[u32],
-    a: Point,
-    b: Point,
-    first: f64,
-    second: f64,
-    level: f64,
-) -> Solved
-    ensures { result ≡ Solve.solve (Solve.residual coefficients.now powers.now a b level) level (less first level) (less second level) }
+pub fn solve(terms: &Terms, a: Point, b: Point, first: f64, second: f64, level: f64) -> Solved
+    ensures { result ≡ Solve.solve (Solve.residual terms.now.coefficients.now terms.now.powers.now a b level) level (less first level) (less second level) }
 {
     let va = first - level;
     let vb = second - level;
-    if !float::is_finite(va) {
+    if !float::is_finite(va) || !float::is_finite(vb) {
         return Solved {
-            cut: Cut::NotFinite,
-            taken: 0,
-        };
-    }
-    if !float::is_finite(vb) {
-        return Solved {
-            cut: Cut::NotFinite,
+            cut: None,
             taken: 0,
         };
     }
     if va == 0.0 {
         return Solved {
-            cut: Cut::First,
+            cut: Some(Cut::First),
             taken: 0,
         };
     }
     if vb == 0.0 {
         return Solved {
-            cut: Cut::Second,
+            cut: Some(Cut::Second),
             taken: 0,
         };
     }
     let limit = tolerance(edge_scale(va, vb, level));
-    let first = Bracket {
+    let bracket = Bracket {
         lo: 0.0,
         hi: 1.0,
         flo: va,
         fhi: vb,
     };
-    take_rounds(coefficients, powers, a, b, level, limit, first)
+    let segment = Segment { terms, a, b, level };
+    segment.take_rounds(limit, bracket)
 }

@@ -21,12 +21,5 @@ pub fn on_unit(x: f64) -> bool
 pub fn on_units(points: &[f64]) -> bool
     ensures { (result ≡ true) ↔ AllOnUnits points.now }
 {
-    let mut at = 0;
-    while at < points.len() {
-        if !on_unit(points[at]) {
-            return false;
-        }
-        at += 1;
-    }
-    true
+    points.iter().all(|x| on_unit(*x))
 }

@@ -1,7 +1,7 @@
 -- Laws of digits, of words and of the numbers that two words are. Assumes nothing.
 use Prim.Native.Nat.{ℕ, ◌+◌, ◌*◌, ◌%◌, ◌^◌, ◌≤◌, ◌<◌}
 use mathlib.Core.Path.{◌≡◌, refl, sym, ap, ap₂, ◌∙◌, subst}
-use mathlib.Core.Bool.{Bool, true, false, not, cond, true≢false, false≢true}
+use mathlib.Core.Bool.{Bool, true, false, not, cond, false≢true}
 use mathlib.Core.Logic.{◌↔◌}
 use mathlib.Core.List.{List}
 use native.Mathlib.Omega.{arith}
@@ -9,9 +9,8 @@ use native.Mathlib.Numerals.{add-one}
 use lib.Dec.{T, ltb, eqb}
 use lib.Pow.{pow-add, pow_mono}
 use lib.ListN.{get_or}
-use lib.Ieee.{Float, nan, inf, fin, binary64, of_bits, to_bits, nan_bits, is_nan, fits, div, ne}
+use lib.Ieee.{Float, nan, inf, fin, binary64, of_bits, to_bits, nan_bits, is_nan, fits}
 use lib.Ieee.Bits.{nan_bits_above, nan_bits_is, of_bits-to_bits}
-use lib.Ieee.Compare.{differs_from_itself}
 use borrow.Author.Tests.{lt-ltb, le-ltb, eqb-true, eq-eqb}
 use Rattle.vectors.specs.Words.{digit_of, spelled, count_of, word_at, joined, float_at}
 
@@ -57,8 +56,8 @@ is_nan_lem nan e = refl
 is_nan_lem (inf s) e = absurd (false≢true e)
 is_nan_lem (fin s m e') e = absurd (false≢true e)
 
-pub nan_bits_lem : (b : ℕ) → 0x7ff0_0000_0000_0000 < b % 0x8000_0000_0000_0000 → div binary64 (of_bits binary64 0) (of_bits binary64 0) ≡ of_bits binary64 b
-unfolding div of_bits
+pub nan_bits_lem : (b : ℕ) → 0x7ff0_0000_0000_0000 < b % 0x8000_0000_0000_0000 → of_bits binary64 0x7ff8_0000_0000_0000 ≡ of_bits binary64 b
+unfolding of_bits
 nan_bits_lem b h = is_nan_lem (of_bits binary64 b) (sym (nan_bits_is binary64 b) ∙ above b ∙ lt-ltb _ _ h)
 
 pub zero_float_lem : (text : List ℕ) (k : ℕ) → count_of text ≤ k → of_bits binary64 0 ≡ float_at text k
@@ -66,23 +65,14 @@ zero_float_lem text k h = ap₂ joined (no_word text k h) (no_word text (k + 1) 
 
 -- ---- two numbers
 
-pub no_nan : (x : Float) → ne x x ≡ false → T (not (is_nan x))
-unfolding ne is_nan
-no_nan nan e = absurd (true≢false e)
-no_nan (inf s) e = tt
-no_nan (fin s m e') e = tt
+pub no_nan : (x : Float) → is_nan x ≡ false → T (not (is_nan x))
+no_nan x e = subst (λ (t : Bool). T (not t)) (sym e) tt
 
-differs : (x : Float) → ne x x ≡ true → x ≡ nan
-differs x e = differs_from_itself x (subst T (sym e) tt)
+pub nan_same : (x y : Float) (b : Bool) → is_nan x ≡ true → is_nan y ≡ b → (b ≡ true) ↔ (x ≡ y)
+nan_same x y b e g = (λ h. sym (is_nan_lem x e) ∙ is_nan_lem y (g ∙ h), λ h. sym g ∙ sym (ap is_nan h) ∙ e)
 
-pub nan_same : (x y : Float) (b : Bool) → ne x x ≡ true → ne y y ≡ b → (b ≡ true) ↔ (x ≡ y)
-nan_same x y b e g = (
-  λ h. differs x e ∙ sym (differs y (g ∙ h)),
-  λ h. sym g ∙ sym (ap (λ (z : Float). ne z z) h) ∙ e,
-)
-
-pub not_same : (x y : Float) → ne x x ≡ false → ne y y ≡ true → (false ≡ true) ↔ (x ≡ y)
-not_same x y e g = (λ h. absurd (false≢true h), λ h. absurd (false≢true (sym e ∙ ap (λ (z : Float). ne z z) h ∙ g)))
+pub not_same : (x y : Float) → is_nan x ≡ false → is_nan y ≡ true → (false ≡ true) ↔ (x ≡ y)
+not_same x y e g = (λ h. absurd (false≢true h), λ h. sym e ∙ ap is_nan h ∙ g)
 
 pub bits_same : (x y : Float) (b : Bool) → T (fits binary64 x) → T (fits binary64 y) → eqb (to_bits binary64 x) (to_bits binary64 y) ≡ b → (b ≡ true) ↔ (x ≡ y)
 bits_same x y b f g e = (

@@ -1,4 +1,3 @@
--- `Digits`: digits, words and the numbers that two words are. `Lists`: a turn of each loop over a list. `Reading`: what a caller has from a list that was read.
+-- `Digits`: digits, words and the numbers that two words are. `Lists`: a turn of each loop over a list.
 pub mod Digits
 pub mod Lists
-pub mod Reading

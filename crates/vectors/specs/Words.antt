@@ -1,10 +1,9 @@
 -- The words of a text of vectors, and the lists that stand in it. A word is eight hexadecimal digits and one further byte, a list its length and then its elements. Definitions only.
-use Rattle.std.specs.Prelude.{ℕ, zero, suc, ◌+◌, ◌-◌, ◌*◌, ◌/◌, ◌%◌, ◌^◌, ◌≤◌, ◌<◌, ◌≡◌, cond, List, [], ◌∷◌, ◌++◌, ltb, length, get_or, drop, Float}
+use Rattle.std.specs.Prelude.{ℕ, zero, suc, ◌+◌, ◌-◌, ◌*◌, ◌/◌, ◌%◌, ◌^◌, ◌≤◌, ◌<◌, ◌≡◌, cond, List, [], ◌∷◌, ◌++◌, ltb, length, get_or, drop, Float, Option, Some, None}
 use Rattle.std.specs.Int.Bits.{bit_xor}
 use Rattle.std.specs.Float.{binary64}
 use Rattle.std.specs.Float.Ieee.{of_bits}
 use Rattle.vectors.specs.declared.Listed.{Listed}
-use Rattle.vectors.specs.declared.Listed.TheVariants as listed
 
 -- ---- what stands at a word
 
@@ -42,17 +41,17 @@ abbrev pub elements : {A : Type 0} → (ℕ → A) → ℕ → ℕ → ℕ → L
 elements at width k zero = []
 elements at width k (suc n) = elements at width k n ++ (at (k + n * width) ∷ [])
 
--- A list at word k: `Is n next` has its length and the word after it. `No` says that it does not stand whole in the text, or is longer than there is room.
-abbrev pub listed_is : ℕ → List ℕ → ℕ → ℕ → Listed → Type 0
-listed_is width text k room (listed.Is n next) = (n ≡ word_at text k) × (next ≡ k + 1 + n * width) × (next ≤ count_of text) × (n ≤ room)
-listed_is width text k room listed.No = k + 1 + word_at text k * width ≤ count_of text → word_at text k ≤ room → ⊥
+-- A list at word k: its length and the word after it. `None` says that it does not stand whole in the text, or is longer than there is room.
+abbrev pub listed_is : ℕ → List ℕ → ℕ → ℕ → Option Listed → Type 0
+listed_is width text k room (Some l) = (l.len ≡ word_at text k) × (l.next ≡ k + 1 + l.len * width) × (l.next ≤ count_of text) × (l.len ≤ room)
+listed_is width text k room None = k + 1 + word_at text k * width ≤ count_of text → word_at text k ≤ room → ⊥
 
 -- the list that was lent, after such a list was read into it
-abbrev pub stored : {A : Type 0} → (ℕ → A) → ℕ → ℕ → List A → Listed → List A
-stored at width k lent (listed.Is n next) = elements at width (k + 1) n ++ drop n lent
-stored at width k lent listed.No = lent
+abbrev pub stored : {A : Type 0} → (ℕ → A) → ℕ → ℕ → List A → Option Listed → List A
+stored at width k lent (Some l) = elements at width (k + 1) l.len ++ drop l.len lent
+stored at width k lent None = lent
 
-pub record Reads {A : Type 0} (at : ℕ → A) (width : ℕ) (text : List ℕ) (k : ℕ) (lent lent' : List A) (r : Listed) : Type 0 where
+pub record Reads {A : Type 0} (at : ℕ → A) (width : ℕ) (text : List ℕ) (k : ℕ) (lent lent' : List A) (r : Option Listed) : Type 0 where
   pub answer : listed_is width text k (length lent) r
   pub list : lent' ≡ stored at width k lent r
 
@@ -75,3 +74,13 @@ left_at n i = cond (ltb i n) 0 (lent_at i)
 -- how many a call clears that is answered by the number and needs so many: after 1 to 3 all words are as lent
 abbrev pub clears_of : ℕ → ℕ → ℕ
 clears_of number needed = cond (ltb number 1) needed (cond (ltb 3 number) needed 0)
+
+-- how many work words a call needs: 32 a triangle and 16 a point
+abbrev pub needed_of : List Float → List ℕ → ℕ
+needed_of points corners = length corners / 3 * 32 + length points / 3 * 16
+
+-- a call ends with the number and the place that stand from word k on, and leaves the work words so
+pub record EndsSo (text : List ℕ) (k number : ℕ) (place' : List ℕ) (points : List Float) (corners work' : List ℕ) : Type 0 where
+  pub answer : number ≡ word_at text k
+  pub place : place' ≡ word_at text (k + 1) ∷ word_at text (k + 2) ∷ []
+  pub words : work' ≡ elements (left_at (clears_of number (needed_of points corners))) 1 0 (length work')

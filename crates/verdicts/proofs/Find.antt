@@ -1,31 +1,20 @@
 -- The search for a side, and the hinge from its two triangles.
 use Prim.Native.Nat.{ℕ, suc, ◌+◌, ◌*◌, ◌≤◌, ◌<◌}
-use mathlib.Core.Path.{◌≡◌, refl, sym, ◌∙◌, ap}
-use mathlib.Core.Bool.{Bool, true, false, cond, ◌&&◌}
+use mathlib.Core.Path.{◌≡◌, refl, sym, ◌∙◌, ap, subst}
+use mathlib.Core.Bool.{Bool, true, false, cond}
 use mathlib.Core.List.{List, [], ◌∷◌}
 use native.Mathlib.Omega.{arith}
-use lib.Dec.{eqb}
 use lib.ListN.{length, get_or, drop}
 use lib.Seq.{drop-cons, drop-length}
-use Rattle.surface.specs.Triangle.{Tri, tri, names, runs}
+use Rattle.surface.specs.Triangle.{Tri, tri, runs}
 use Rattle.surface.specs.Closed.{Closed}
 use Rattle.surface.specs.Edit.{has, first, place, later, opposite, Hinge, hinge}
 use Rattle.surface.proofs.Laws.{side-exists, hinge-found}
 use Rattle.history.proofs.Verdict.{first-has}
 use Rattle.surface.specs.Flat.{tri_of, held}
 use Rattle.surface.proofs.Held.{length-held, place-held}
-use Rattle.verdicts.specs.Found.{SideAt}
-use Rattle.verdicts.proofs.Scan.{not_named}
-
--- a triangle that does not name a has no side of a
-pub no_corner : (a b : ℕ) (t : Tri) → names t a ≡ false → false ≡ has a b t
-no_corner a b t e =
-    let g = not_named t a e in
-    rw (g.0, g.1, g.2, and_false (eqb t.a b), and_false (eqb t.b b), and_false (eqb t.c b))
-  where
-    and_false : (k : Bool) → (k && false) ≡ false
-    and_false true = refl
-    and_false false = refl
+use Rattle.std.specs.Prelude.{Option, None, Some, IsSome}
+use Rattle.verdicts.specs.Found.{FirstOn, SideAt}
 
 -- the search for a side, a triangle at a time
 module _ (a b : ℕ) (ts : List Tri) (i : ℕ) (fits : i < length ts) where
@@ -82,18 +71,20 @@ module _ (l : List ℕ) (n p q a b : ℕ) (m : 3 * n ≤ length l) (pn : p < n) 
   is_s : tri_of s ≡ place ts (later a b ts)
   is_s = ap tri_of es ∙ sym (place-held l n q m qn) ∙ ap (λ (i : ℕ). place ts i) is-q
 
-  pub hinge-made : (k : Bool) → k ≡ runs (tri_of t) a b → (x y : ℕ) → x ≡ opposite (tri_of t) (cond k a b) (cond k b a) → y ≡ opposite (tri_of s) (cond k b a) (cond k a b)
-      → ◌≡◌ {A = Hinge} (record { p1 = p; p2 = q; u = cond k a b; v = cond k b a; c = x; d = y }) (hinge ts a b)
+  pub hinge-made : (k : Bool) → k ≡ runs (tri_of t) a b → (u v : ℕ) → (u ≡ cond k a b) × (v ≡ cond k b a) → (x y : ℕ) → x ≡ opposite (tri_of t) u v → y ≡ opposite (tri_of s) v u
+      → ◌≡◌ {A = Hinge} (record { p1 = p; p2 = q; u = u; v = v; c = x; d = y }) (hinge ts a b)
   unfolding hinge
-  hinge-made k ek x y ex ey =
+  hinge-made k ek u v e x y ex ey =
       let kk : k ≡ runs (place ts (first a b ts)) a b = ek ∙ ap (λ (r : Tri). runs r a b) is-t in
+      let eu : u ≡ cond (runs (place ts (first a b ts)) a b) a b = e.0 ∙ ap (λ (j : Bool). cond j a b) kk in
+      let ev : v ≡ cond (runs (place ts (first a b ts)) a b) b a = e.1 ∙ ap (λ (j : Bool). cond j b a) kk in
       λ i. record {
         p1 = ep i;
         p2 = is-q i;
-        u = cond (kk i) a b;
-        v = cond (kk i) b a;
-        c = (ex ∙ (λ j. opposite (is-t j) (cond (kk j) a b) (cond (kk j) b a))) i;
-        d = (ey ∙ (λ j. opposite (is_s j) (cond (kk j) b a) (cond (kk j) a b))) i;
+        u = eu i;
+        v = ev i;
+        c = (ex ∙ (λ j. opposite (is-t j) (eu j) (ev j))) i;
+        d = (ey ∙ (λ j. opposite (is_s j) (ev j) (eu j))) i;
       }
 
 pub later_in : {l : List ℕ} {n p a b : ℕ} (q : ℕ) → SideAt l n p a b → q ≡ p + 1 + first a b (drop (p + 1) (held l n)) → q < n
@@ -104,3 +95,10 @@ later_in {l} {n} {p} {a} {b} q s e =
     let h : p + 1 ≡ suc p = omega arith in
     let g : q ≡ later a b ts = e ∙ ap (λ (i : ℕ). i + first a b (drop i ts)) (h ∙ ap suc s.is) in
     omega arith
+
+pub later_some : {l : List ℕ} {n p a b : ℕ} (r : Option ℕ) → SideAt l n p a b → FirstOn (held l n) n (p + 1) a b r → IsSome r
+later_some {n = n} None s f = absurd (let q : n < n = later_in n s (sym f) in omega arith)
+later_some (Some i) s f = refl
+
+pub later_at : (l : List ℕ) (n p a b : ℕ) {r : Option ℕ} {q : ℕ} → r ≡ Some q → FirstOn (held l n) n (p + 1) a b r → (q ≡ p + 1 + first a b (drop (p + 1) (held l n))) × (q < n)
+later_at l n p a b e f = subst (FirstOn (held l n) n (p + 1) a b) e f

@@ -1,14 +1,14 @@
 -- The steps around a corner are noted a triangle at a time.
-use Prim.Native.Nat.{ℕ, zero, suc, ◌+◌, ◌≤◌, ◌<◌}
+use Prim.Native.Nat.{ℕ, ◌+◌, ◌≤◌, ◌<◌}
 use mathlib.Core.Path.{◌≡◌, refl, sym, ◌∙◌, ap, subst}
 use mathlib.Core.Logic.{◌⊎◌, inl, inr}
 use mathlib.Core.Bool.{Bool, true, false, ◌||◌}
-use mathlib.Core.List.{List, [], ◌∷◌, ◌++◌}
+use mathlib.Core.List.{List, [], ◌∷◌}
 use native.Mathlib.Omega.{arith}
 use native.Mathlib.Decide.{ℕ_discrete}
 use lib.Dec.{eqb}
-use lib.ListN.{length, get_or, drop, set, replicate, length-set}
-use lib.Seq.{get_or-set_same, get_or-set_other, drop-length}
+use lib.ListN.{length, get_or, drop, set, length-set}
+use lib.Seq.{get_or-set_same, get_or-set_other}
 use borrow.Author.Tests.{eqb-true, eqb-false, eq-eqb, ne_eqb}
 use Rattle.surface.specs.Triangle.{Tri, names}
 use Rattle.surface.specs.Closed.{sides, Step, around}
@@ -178,52 +178,5 @@ pub noted-common : {ts : List Tri} {b : ℕ} {w : List ℕ} → Noted ts b w →
 unfolding no_common?
 noted-common {ts} {b} {w} g a c d = all_same (λ (s : Step). apart_by w c d s.from) (λ (s : Step). apart? ts b c d s.from) (around ts a) (λ s. noted-apart g c d s.from)
 
--- words that were cleared
-pub cleared : (w w' : List ℕ) → w' ≡ replicate (length w) 0 ++ drop (length w) w → (x : ℕ) → get_or w' x 0 ≡ 0
-cleared w w' e x =
-    let z : List ℕ = replicate (length w) 0 in
-    ap (λ (c : List ℕ). get_or c x 0) (e ∙ ap (λ (c : List ℕ). z ++ c) (drop-length w) ∙ append_nil z) ∙ zeros (length w) x
-  where
-    append_nil : (m : List ℕ) → m ++ [] ≡ m
-    append_nil [] = refl
-    append_nil (y ∷ m) = ap (λ (c : List ℕ). y ∷ c) (append_nil m)
-
-    zeros : (k x : ℕ) → ◌≡◌ {A = ℕ} (get_or (replicate k 0) x 0) 0
-    zeros zero x = refl
-    zeros (suc k) zero = refl
-    zeros (suc k) (suc x) = zeros k x
-
--- the tests of one corner, whose place among the words is k
-module _ (w : List ℕ) (c d x k : ℕ) (e : k ≡ x) where
-  pub apart_none : get_or w k 0 ≡ 0 → true ≡ apart_by w c d x
-  apart_none z = rw (eq-eqb (get_or w x 0) 0 (ap (λ (j : ℕ). get_or w j 0) (sym e) ∙ z))
-
-  pub apart-c : x ≡ c → true ≡ apart_by w c d x
-  apart-c z = go (eqb (get_or w x 0) 0)
-    where
-      go : (j : Bool) → true ≡ (j || (eqb x c || eqb x d))
-      go true = refl
-      go false = rw (eq-eqb x c z)
-
-  pub apart-d : (get_or w k 0 ≡ 0 → ⊥) → (x ≡ c → ⊥) → eqb x d ≡ apart_by w c d x
-  apart-d m n = rw (ne_eqb (get_or w x 0) 0 (λ z. m (ap (λ (j : ℕ). get_or w j 0) e ∙ z)), ne_eqb x c n)
-
--- one triangle's note, by its three tests
-module _ (a : ℕ) (t w : List ℕ) where
-  pub noted-first : (k : ℕ) → k ≡ get_or t 1 0 → get_or t 0 0 ≡ a → set w k (get_or t 2 0 + 1) ≡ noted a (tri_of t) w
-  noted-first k e p = rw (eq-eqb (get_or t 0 0) a p, e)
-
-  pub noted-second : (k : ℕ) → k ≡ get_or t 2 0 → (get_or t 0 0 ≡ a → ⊥) → get_or t 1 0 ≡ a → set w k (get_or t 0 0 + 1) ≡ noted a (tri_of t) w
-  noted-second k e m p = rw (ne_eqb (get_or t 0 0) a m, eq-eqb (get_or t 1 0) a p, e)
-
-  pub noted-third : (k : ℕ) → k ≡ get_or t 0 0 → (get_or t 0 0 ≡ a → ⊥) → (get_or t 1 0 ≡ a → ⊥) → get_or t 2 0 ≡ a → set w k (get_or t 1 0 + 1) ≡ noted a (tri_of t) w
-  noted-third k e m n p = rw (ne_eqb (get_or t 0 0) a m, ne_eqb (get_or t 1 0) a n, eq-eqb (get_or t 2 0) a p, e)
-
-  pub noted-none : (get_or t 0 0 ≡ a → ⊥) → (get_or t 1 0 ≡ a → ⊥) → (get_or t 2 0 ≡ a → ⊥) → w ≡ noted a (tri_of t) w
-  noted-none m n o = rw (ne_eqb (get_or t 0 0) a m, ne_eqb (get_or t 1 0) a n, ne_eqb (get_or t 2 0) a o)
-
-  pub noted-off : names (tri_of t) a ≡ false → w ≡ noted a (tri_of t) w
-  noted-off e = let g = not_named (tri_of t) a e in rw (g.0, g.1, g.2)
-
-pub listed_as : {l : List ℕ} {n points : ℕ} → Listed l n points → (k : ℕ) → k ≡ points → Listed l n k
-listed_as {l} {n} s k e = subst (λ (j : ℕ). Listed l n j) (sym e) s
+pub noted-off : (a : ℕ) (t w : List ℕ) → names (tri_of t) a ≡ false → w ≡ noted a (tri_of t) w
+noted-off a t w e = let g = not_named (tri_of t) a e in rw (g.0, g.1, g.2)

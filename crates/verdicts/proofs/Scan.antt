@@ -16,7 +16,9 @@ use Rattle.surface.proofs.Bools.{or_none, none_of}
 use Rattle.surface.proofs.Laws.{side-exists, hinge-found}
 use Rattle.surface.specs.Check.{every}
 use Rattle.surface.specs.Flat.{tri_of, held}
-use Rattle.verdicts.specs.Found.{hinge_of, Ready}
+use Rattle.std.specs.Prelude.{Option, None, Some}
+use Rattle.std.specs.Option.{is_some}
+use Rattle.verdicts.specs.Found.{FirstOn, hinge_of, Ready}
 use Rattle.verdicts.specs.declared.Found.{Found}
 use Rattle.history.specs.Local.{no_common?, collapse?}
 use Rattle.history.proofs.Verdict.{first-has}
@@ -36,7 +38,7 @@ first-most a b (t ∷ ts) = go (has a b t) refl (first-most a b ts)
     go true e f = rw (first, e) (omega arith)
     go false e f = rw (first, e) (omega arith)
 
-pub absent_law : {l : List ℕ} {n : ℕ} (x y q : ℕ) → Ready l n → q ≡ 0 + first x y (drop 0 (held l n)) → eqb q n ≡ eqb (sides (held l n) x y) 0
+absent_law : {l : List ℕ} {n : ℕ} (x y q : ℕ) → Ready l n → q ≡ 0 + first x y (drop 0 (held l n)) → eqb q n ≡ eqb (sides (held l n) x y) 0
 absent_law {l} {n} x y q r e = go (eqb (sides (held l n) x y) 0) refl
   where
     m : length (held l n) ≡ n
@@ -53,6 +55,12 @@ absent_law {l} {n} x y q r e = go (eqb (sides (held l n) x y) 0) refl
     go false f =
         let z = eqb-false (sides (held l n) x y) 0 f in
         ne_eqb q n (λ g. omega (arith, m, side-found r.closed x y (omega arith)))
+
+pub none_found : {l : List ℕ} {n : ℕ} (x y : ℕ) (r : Option ℕ) → Ready l n → FirstOn (held l n) n 0 x y r → (k : Bool) → is_some r ≡ not k → k ≡ eqb (sides (held l n) x y) 0
+none_found {l} {n} x y None s f true e = sym (eq-eqb (0 + first x y (drop 0 (held l n))) n f) ∙ absent_law x y (0 + first x y (drop 0 (held l n))) s refl
+none_found x y None s f false e = cc
+none_found x y (Some i) s f true e = cc
+none_found {l} {n} x y (Some i) s f false e = sym (ne_eqb (0 + first x y (drop 0 (held l n))) n (λ z. omega (arith, f.0, f.1))) ∙ absent_law x y (0 + first x y (drop 0 (held l n))) s refl
 
 -- the steps of the first triangle, and of the others
 keep_append : (k : Bool) (s : Step) (l m : List Step) → keep k s (l ++ m) ≡ keep k s l ++ m
@@ -185,9 +193,6 @@ module _ (ts : List Tri) (a b : ℕ) (h : Found) (e : hinge_of h ≡ hinge ts a 
 
     pub collapse-three : x ≡ true → (y : Bool) → y ≡ eqb (length (around ts b)) 3 → not y ≡ collapse? ts a b
     collapse-three m y ey = ap not ey ∙ sym (ap (λ (j : Bool). not (j && eqb (length (around ts b)) 3)) m) ∙ with_x
-
-pub third_of : (i j k : Bool) → i ≡ false → j ≡ false → k ≡ (i || (j || k))
-third_of i j k e f = rw (e, f)
 
 one-most : (k : Bool) → one k ≤ 1
 one-most true = omega arith

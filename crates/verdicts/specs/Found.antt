@@ -1,15 +1,25 @@
 -- The side of an entry as it was found in the lists that a program holds. Definitions only.
-use Rattle.std.specs.Prelude.{ℕ, ◌*◌, ◌≤◌, ◌<◌, ◌≡◌, Bool, false, List, length, get_or}
+use Rattle.std.specs.Prelude.{ℕ, ◌+◌, ◌*◌, ◌≤◌, ◌<◌, ◌≡◌, Bool, false, List, Option, MatchOption, Result, MatchResult, length, get_or, drop}
 use Rattle.surface.specs.Triangle.{Tri}
 use Rattle.surface.specs.Closed.{Closed}
 use Rattle.surface.specs.Edit.{Hinge, hinge, first}
 use Rattle.surface.specs.Flat.{held}
 use Rattle.surface.specs.Label.{carries}
 use Rattle.verdicts.specs.declared.Found.{Found}
+use Rattle.verdicts.specs.declared.Unfit.{Unfit}
+use Rattle.verdicts.specs.declared.Unfit.TheVariants.{NoSide}
+
+-- the place of the first of the n triangles, from a place on, on the side of a and b, where there is one
+abbrev pub FirstOn : List Tri → ℕ → ℕ → ℕ → ℕ → Option ℕ → Type 0
+FirstOn ts n from a b r = MatchOption r (from + first a b (drop from ts) ≡ n) (λ i. (i ≡ from + first a b (drop from ts)) × (i < n))
 
 -- the struct's value as the definition's
 abbrev pub hinge_of : Found → Hinge
-hinge_of f = record { p1 = f.p1; p2 = f.p2; u = f.u; v = f.v; c = f.c; d = f.d }
+hinge_of f = record { p1 = f.earlier; p2 = f.later; u = f.u; v = f.v; c = f.c; d = f.d }
+
+-- the hinge of the side of a and b, where one of the n triangles has it
+abbrev pub Sought : List Tri → ℕ → ℕ → ℕ → Result Found Unfit → Type 0
+Sought ts n a b r = MatchResult r (λ h. (first a b ts < n) × (hinge_of h ≡ hinge ts a b)) (λ why. (why ≡ NoSide) × (first a b ts ≡ n))
 
 -- the list of corner numbers has n triangles, which are closed
 pub record Ready (l : List ℕ) (n : ℕ) : Type 0 where
@@ -34,7 +44,7 @@ pub record Hung (l ls : List ℕ) (n a b : ℕ) (f : Found) : Type 0 where
   pub few : n ≤ 32768
   pub labels : n ≤ length ls
   pub is : hinge_of f ≡ hinge (held l n) a b
-  pub places : Places l n f.p1 f.p2
+  pub places : Places l n f.earlier f.later
 
 -- n triangles with labels, none above 7
 pub record Labelled (l ls : List ℕ) (n : ℕ) : Type 0 where

@@ -20,15 +20,14 @@ use Rattle.surface.specs.Finding.{bound, smallest_below, finding}
 use Rattle.quality.specs.Quality.{rated, wedge}
 use Rattle.questions.specs.Questions.{needed, lent_questions}
 use Rattle.checking.specs.Validate.{next, measured, examined, validated}
-use Rattle.checking.specs.Verdict.{quality_of, volume_of}
-use Rattle.checking.specs.declared.Verdict.{Verdict}
-use Rattle.checking.specs.declared.Verdict.TheVariants.{Accepted, Refused}
+use Rattle.checking.specs.Verdict.{quality_of, volume_of, Verdict, accepted}
 use Rattle.units.specs.Units.{OnUnits, AllOnUnits, units_at}
 use Rattle.volume.specs.Six.{six}
 use Rattle.volume.specs.Error.{NearEachOther}
 use Rattle.volume.specs.Volume.{Reports, ListedAnew, six_of}
 use Rattle.volume.proofs.Reported.{is-sound}
 use Rattle.volume.proofs.Volume.{report_laws}
+use Rattle.std.specs.Prelude.{Ok, Err}
 
 abbrev o : Float
 o = fin false 0 (pos 0)
@@ -84,12 +83,12 @@ abbrev verdict : List Float → List ℕ → Verdict
 verdict ps cs = validated ps cs (replicate 4 0) (replicate (needed ps cs) 0)
 
 abbrev accepted? : Verdict → Bool
-accepted? (Accepted quality volume) = true
-accepted? (Refused why) = false
+accepted? (Ok m) = true
+accepted? (Err why) = false
 
-by_test : (v : Verdict) → accepted? v ≡ true → v ≡ Accepted (quality_of v) (volume_of v)
-by_test (Accepted quality volume) h = refl
-by_test (Refused why) h = absurd (false≢true h)
+by_test : (v : Verdict) → accepted? v ≡ true → v ≡ accepted (quality_of v) (volume_of v)
+by_test (Ok m) h = refl
+by_test (Err why) h = absurd (false≢true h)
 
 is-accepted : accepted? (verdict points corners) ≡ true
 unfolding of_int round units odd size climb span add sub mul div lt le is_nan root is_finite lesser triangles sides around closed? every leftover unused leads others bound smallest_below finding lent_questions rated wedge next measured examined validated

@@ -18,10 +18,7 @@ use Rattle.rounding.proofs.Rounded.{is-wholes}
 use Rattle.surface.specs.Triangle.{Tri, triangles}
 use Rattle.surface.proofs.Flat.{length-triangles}
 use Rattle.quality.specs.Quality.{number, wedge, degenerate}
-use Rattle.questions.specs.declared.Refusal.TheVariants.{Question}
 use Rattle.checking.specs.Validate.{placed, outside, quality_at, wedge_at, next, measured}
-use Rattle.checking.specs.declared.Verdict.{Verdict}
-use Rattle.checking.specs.declared.Verdict.TheVariants.{Accepted}
 use Rattle.checking.proofs.Turns.{Within, within, by_tests, refused}
 use Rattle.checking.proofs.Sound.{never}
 use Rattle.checking.proofs.Laws.{Sound, accepted-measured, sound}
@@ -32,6 +29,8 @@ use Rattle.volume.specs.Volume.{Reports, many, six_of}
 use Rattle.volume.proofs.Accepted.{counted}
 use Rattle.volume.proofs.Wedge.{placed-holds, determinant-holds}
 use Rattle.volume.proofs.Turn.{Summed, share_added}
+use Rattle.questions.specs.declared.Refusal.TheVariants.{CornerMissing, Degenerate}
+use Rattle.checking.specs.Verdict.{Verdict, accepted, volume_of}
 
 -- ---- triangle by triangle
 
@@ -45,19 +44,19 @@ module _ (points : List Float) (on : AllOnUnits points) where
       share_added v (dotted (placed points t.a) (crossed (placed points t.b) (placed points t.c))) k s (six_at first (units_at points) t) few S
       (determinant-holds (placed-holds points on t.a i.a) (placed-holds points on t.b i.b) (placed-holds points on t.c i.c))
 
-  summed : (ts : List Tri) (m v q w : Float) (k : ℕ) (s : ℤ) → k + length ts ≤ 32768 → foldl (next points) (Accepted m v) ts ≡ Accepted q w
+  summed : (ts : List Tri) (m v q w : Float) (k : ℕ) (s : ℤ) → k + length ts ≤ 32768 → foldl (next points) (accepted m v) ts ≡ accepted q w
       → Summed (2 ^ 1044) v k s → Summed (2 ^ 1044) w (k + length ts) (s +ℤ six first (units_at points) ts)
   unfolding six
   summed [] m v q w k s few e S =
-      let same : v ≡ w = cc in
+      let same : v ≡ w = ap volume_of e in
       subst₃ (λ (x : Float) (n : ℕ) (z : ℤ). Summed (2 ^ 1044) x n z) same (sym (add-zero k)) (sym (+ℤ_idr s)) S
   summed (t ∷ ts) m v q w k s few e S = go (outside (length points / 3) t) refl (degenerate (quality_at points t)) refl (summed ts)
     where
       go : (o : Bool) → outside (length points / 3) t ≡ o → (d : Bool) → degenerate (quality_at points t) ≡ d
-          → ((m v q w : Float) (k : ℕ) (s : ℤ) → k + length ts ≤ 32768 → foldl (next points) (Accepted m v) ts ≡ Accepted q w → Summed (2 ^ 1044) v k s → Summed (2 ^ 1044) w (k + length ts) (s +ℤ six first (units_at points) ts))
+          → ((m v q w : Float) (k : ℕ) (s : ℤ) → k + length ts ≤ 32768 → foldl (next points) (accepted m v) ts ≡ accepted q w → Summed (2 ^ 1044) v k s → Summed (2 ^ 1044) w (k + length ts) (s +ℤ six first (units_at points) ts))
           → Summed (2 ^ 1044) w (k + suc (length ts)) (s +ℤ (six_at first (units_at points) t +ℤ six first (units_at points) ts))
-      go true p d g rest = absurd (never (sym (ap (λ (x : Verdict). foldl (next points) x ts) (by_tests points m v t p g) ∙ refused points (Question 5) ts) ∙ e))
-      go false p true g rest = absurd (never (sym (ap (λ (x : Verdict). foldl (next points) x ts) (by_tests points m v t p g) ∙ refused points (Question 6) ts) ∙ e))
+      go true p d g rest = absurd (never (sym (ap (λ (x : Verdict). foldl (next points) x ts) (by_tests points m v t p g) ∙ refused points CornerMissing ts) ∙ e))
+      go false p true g rest = absurd (never (sym (ap (λ (x : Verdict). foldl (next points) x ts) (by_tests points m v t p g) ∙ refused points Degenerate ts) ∙ e))
       go false p false g rest =
           subst₂ (λ (n : ℕ) (z : ℤ). Summed (2 ^ 1044) w n z) (omega arith) (+ℤ_assoc s (six_at first (units_at points) t) (six first (units_at points) ts))
           (rest (lesser m (quality_at points t)) (plus v (wedge_at points t)) q w (suc k) (s +ℤ six_at first (units_at points) t) (omega arith)
@@ -77,7 +76,7 @@ module _ {points : List Float} {corners : List ℕ} {volume : Float} (r : Report
       let n = length-triangles (length corners / 3) corners (omega (arith, c.corners)) in
       omega (arith, c.few-triangles)
 
-  is-measured : measured points corners ≡ Accepted r.quality volume
+  is-measured : measured points corners ≡ accepted r.quality volume
   is-measured = accepted-measured points corners r.labels r.work r.quality volume r.accepted r.some
 
   pub is-sound : Sound points corners r.quality volume

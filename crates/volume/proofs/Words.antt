@@ -15,11 +15,19 @@ use mir.ValLaws.{to_z_pos, to_z-of_z}
 use Rattle.surface.specs.Triangle.{Tri, tri, triangles}
 use Rattle.integers.proofs.Size.{size-minus}
 use Rattle.integers.proofs.Polynomial.{at, plus, minus, times, identity, vanishes}
-use Rattle.checking.proofs.Turns.{triangles-more}
+use Rattle.checking.proofs.Turns.{one_more}
 use Rattle.units.specs.Units.{units_at}
 use Rattle.volume.specs.Six.{six_at, six}
 use Rattle.volume.specs.Stages.{lifted}
 use Rattle.volume.proofs.Lifted.{Positive}
+
+-- the triangles from a place of the list on
+pub triangles-more : (cs : List ℕ) (i : ℕ) → i + 2 < length cs
+    → triangles (drop i cs) ≡ tri (get_or cs i 0) (get_or cs (i + 1) 0) (get_or cs (i + 2) 0) ∷ triangles (drop (i + 3) cs)
+unfolding triangles
+triangles-more cs i h =
+    rw
+    (one_more cs 0 i (i + 1) (omega arith) (omega arith), one_more cs 0 (i + 1) (i + 2) (omega arith) (omega arith), one_more cs 0 (i + 2) (i + 3) (omega arith) (omega arith))
 
 module _ (points : List Float) (corners : List ℕ) where
   -- six times the volume of the triangles from a place of the list on
@@ -59,7 +67,7 @@ module _ (points : List Float) (corners : List ℕ) where
     low' = (low + e % 2147483648) % 2147483648
 
     abbrev high' : ℕ
-    high' = high + e / 2147483648 + (low + e % 2147483648) / 2147483648
+    high' = high + (e / 2147483648 + (low + e % 2147483648) / 2147483648)
 
     carried : high' * 2147483648 + low' ≡ high * 2147483648 + low + e
     carried = omega arith

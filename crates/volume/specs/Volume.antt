@@ -5,10 +5,10 @@ use Rattle.surface.specs.Renumber.{renumbered}
 use Rattle.surface.specs.Closed.{sides}
 use Rattle.surface.specs.PageTwelve.{Relisted}
 use Rattle.checking.specs.Validate.{validated}
-use Rattle.checking.specs.declared.Verdict.TheVariants.{Accepted}
 use Rattle.units.specs.Units.{WholePoint, AllOnUnits, units_at}
 use Rattle.volume.specs.Six.{six}
 use Rattle.volume.specs.Error.{NearExact, NearEachOther}
+use Rattle.checking.specs.Verdict.{accepted}
 
 -- each directed side's reverse occurs as often as the side
 abbrev pub Balanced : List Tri → Type 0
@@ -44,7 +44,7 @@ pub record Reports (points : List Float) (corners : List ℕ) (volume : Float) :
   pub labels : List ℕ
   pub work : List ℕ
   pub quality : Float
-  pub accepted : validated points corners labels work ≡ Accepted quality volume
+  pub accepted : validated points corners labels work ≡ accepted quality volume
   pub some : 0 < length corners
   pub units : AllOnUnits points
 

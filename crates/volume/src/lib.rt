@@ -12,7 +12,7 @@ use checking::point;
 use halfedges::wide;
 
 // Six times a volume, as a whole number of (1/1024)^3: high * 2^31 + low.
-#[derive(Clone, Copy)]
+#[derive(Clone, Copy, Debug, PartialEq, Eq)]
 pub struct Sixfold {
     pub high: i64,
     pub low: u64,
@@ -30,15 +30,15 @@ fn share(points: &[f64], a: usize, b: usize, c: usize) -> u64
     (p.dot(q.cross(r)) * 1073741824.0 + 2251799813685248.0) as u64
 }
 
-// Six times the volume of the triangles.
+// Six times the volume of the triangles. (By the number of the triangle, not in chunks: it tells how many lifts are in the sum.)
 pub fn exact(points: &[f64], corners: &[u32]) -> Sixfold
     requires { Measurable points.now corners.now }
     ensures { ExactSix points.now corners.now result }
 {
     let mut high = 0;
     let mut low = 0;
-    let mut at = 0;
-    while at < corners.len() {
+    for i in 0..corners.len() / 3 {
+        let at = 3 * i;
         let e = share(
             points,
             wide(corners[at]),
@@ -46,13 +46,12 @@ pub fn exact(points: &[f64], corners: &[u32]) -> Sixfold
             wide(corners[at + 2]),
         );
         let sum = low + e % 2147483648;
-        high = high + e / 2147483648 + sum / 2147483648;
+        high += e / 2147483648 + sum / 2147483648;
         low = sum % 2147483648;
-        at += 3;
     }
     let lifted = (corners.len() / 3 * 1048576) as i64;
     Sixfold {
         high: (high as i64) - lifted,
-        low: low,
+        low,
     }
 }

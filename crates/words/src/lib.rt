@@ -6,6 +6,7 @@ ghost use Rattle.halfedges.specs.Place.{at, nx, pv};
 
 use halfedges::{after, before, wide};
 
+// The word at i, as an index.
 pub fn word(work: &[u32], i: usize) -> usize
     requires { i < length work.now }
     ensures { result ≡ at work.now i }
@@ -13,6 +14,7 @@ pub fn word(work: &[u32], i: usize) -> usize
     wide(work[i])
 }
 
+// x becomes the word at i.
 pub fn put(work: &mut [u32], i: usize, x: usize)
     requires { (i < length work.old) × (x < 4294967296) }
     ensures { work.new ≡ set work.old i x }

@@ -13,6 +13,9 @@ use lib.Seq.{take-suc, take_all}
 use Rattle.sheet.specs.Text.{decimal, integer, lines}
 use Rattle.sheet.specs.Sheet.{Point, Triangle, Sheet, text_after, point_line, triangle_line, point_names, triangle_names}
 use Rattle.sheet.specs.Stages.{ended, head_text}
+use Rattle.sheet.specs.Edition.{rules_of}
+use Rattle.sheet.specs.declared.Edition as declared
+use Rattle.sheet.specs.declared.Edition.TheVariants.{First, Second}
 use Rattle.sheet.proofs.Decimal.{decimal-one, tenth}
 use Rattle.sheet.proofs.Lines.{lines-append}
 use Rattle.sheet.proofs.Texts.{digits_long}
@@ -70,7 +73,14 @@ word-whole w k h p = said_as w (length w) (take_all k w (omega arith)) (omega ar
 
 -- ---- the text
 
-pub head-put : {l l₁ l₂ l₃ l₄ : List ℕ} {i j k next : ℕ} (opening : List ℕ) (n m : ℕ) → Put opening 27 l l₁ 0 i → Put (ended (decimal n) 32) 11 l₁ l₂ i j → Put (ended (decimal m) 10) 11 l₂ l₃ j k → Put point_names 6 l₃ l₄ k next → Put (head_text opening n m) 55 l l₄ 0 next
+pub opening-short : (e : declared.Edition) → length (rules_of e).opening ≤ 27
+opening-short First = omega arith
+opening-short Second = omega arith
+
+pub opening_put : {w l l' : List ℕ} {at next : ℕ} (e : declared.Edition) → w ≡ (rules_of e).opening → Put w (length w) l l' at next → Put (rules_of e).opening 27 l l' at next
+opening_put {w} {l} {l'} {at} {next} e q p = bounded 27 (opening-short e) (subst (λ (o : List ℕ). Put o (length o) l l' at next) q p)
+
+pub head-put : {l l₁ l₂ l₃ l₄ : List ℕ} {at i j k next : ℕ} (opening : List ℕ) (n m : ℕ) → Put opening 27 l l₁ at i → Put (ended (decimal n) 32) 11 l₁ l₂ i j → Put (ended (decimal m) 10) 11 l₂ l₃ j k → Put point_names 6 l₃ l₄ k next → Put (head_text opening n m) 55 l l₄ at next
 head-put opening n m a b c d = said_as (head_text opening n m) 55 (simp append_assoc) (omega arith) (both a (both b (both c d)))
 
 pub text-put : {l l₁ l₂ l₃ l₄ : List ℕ} {i j k next : ℕ} (opening : List ℕ) (s : Sheet) {p t : ℕ} → p ≤ 128 * 36 → t ≤ 256 * 44

@@ -4,7 +4,7 @@ use mathlib.Core.List.{List, [], ◌∷◌, ◌++◌}
 use Prim.Native.Nat.{ℕ, suc, ◌+◌, ◌-◌, ◌≤◌}
 use native.Mathlib.Omega.{arith}
 use lib.ListN.{length, drop, set, replicate, length-append, length-replicate}
-use lib.Seq.{sets, sets-eq, set_out}
+use lib.Seq.{sets, sets-eq}
 use Rattle.sheet.proofs.Stores.{drop-same}
 use Rattle.writing.specs.Stages.{Put}
 
@@ -24,10 +24,6 @@ put-nothing l at = record { stored = refl; place = omega arith; short = omega ar
 
 pub put_one : (b at : ℕ) (l l' : List ℕ) (next : ℕ) → l' ≡ set l at b → next ≡ at + 1 → Put (b ∷ []) 1 l l' at next
 put_one b at l l' next e f = record { stored = e; place = f; short = omega arith }
-
--- past the end
-pub put-past : (b at : ℕ) (l : List ℕ) → length l ≤ at → Put (b ∷ []) 1 l l at (at + 1)
-put-past b at l h = put_one b at l l (at + 1) (sym (set_out l at b h)) refl
 
 -- a, then b
 pub both : {a b : List ℕ} {m n : ℕ} {l l₁ l₂ : List ℕ} {at i j : ℕ} → Put a m l l₁ at i → Put b n l₁ l₂ i j → Put (a ++ b) (m + n) l l₂ at j

@@ -10,17 +10,25 @@ use lib.IntN.{ℤ, pos, nat_abs}
 use lib.ListN.{length, get_or, replicate}
 use Rattle.surface.specs.Check.{every}
 use Rattle.surface.proofs.Bools.{true_false}
-use Rattle.sheet.specs.Edition.{edition, IsEdition}
+use Rattle.sheet.specs.Edition.{edition, IsEdition, edition_number, rules_of}
+use Rattle.sheet.specs.declared.Edition as declared
 use Rattle.sheet.specs.Sheet.{Sheet, Every, Near, Small, text, coordinates_of, corners_of, labels_of}
 use Rattle.sheet.proofs.Stores.{length_coordinates, length-corners, length-labels}
 use Rattle.sheet.proofs.Tests.{both-mean, le_means, eq_means, every_means, fails}
 use Rattle.writing.specs.Lists.{Sayable, coordinate_in_range?, sayable?, list_point, list_triangle, list_sheet}
 use Rattle.writing.specs.Written.{written, refused, list_text, Leaves}
 use Rattle.writing.specs.Laws.{ListLaws}
-use Rattle.writing.specs.declared.Written as declared
-use Rattle.writing.specs.declared.Written.TheVariants.{Refused}
+use Rattle.std.specs.Prelude.{Result, Err}
+use Rattle.sheet.specs.declared.Refusal.{Refusal}
+use Rattle.sheet.specs.declared.Refusal.TheVariants.{NoSheet}
 use Rattle.writing.proofs.Settling.{refused-leaves}
 use Rattle.writing.proofs.Threes.{length-each, every-each, every-at, coordinates_back, coordinates_near, list-points, corners-back, labels-back, list-triangles}
+
+-- in the range of the edition with that number
+pub in_its_range : (number : ℕ) (coordinates : List ℤ) (e : declared.Edition) {most : ℕ} → edition_number e ≡ number → most ≡ (rules_of e).most → every (coordinate_in_range? (edition number).most) coordinates ≡ every (coordinate_in_range? most) coordinates
+in_its_range number coordinates e p q =
+    ap (λ (n : ℕ). every (coordinate_in_range? (edition n).most) coordinates) (sym p)
+    ∙ ap (λ (m : ℕ). every (coordinate_in_range? m) coordinates) (sym q)
 
 module _ (number : ℕ) (coordinates : List ℤ) (corners labels : List ℕ) where
   -- what the tests ask
@@ -46,15 +54,15 @@ module _ (number : ℕ) (coordinates : List ℤ) (corners labels : List ℕ) whe
 
   -- ---- what `write` leaves
 
-  pub leaves_16 : (list list' : List ℕ) → (Passes → ⊥) → list' ≡ replicate (length list) 0 → Leaves (list_text number coordinates corners labels) list list' (Refused 16)
-  leaves_16 list list' n z = refused-leaves (list_text number coordinates corners labels) 16 list list' (ap (λ (b : Bool). cond b (written (text (edition number) (list_sheet coordinates corners labels))) (refused 16)) (fails tests n)) z
+  pub leaves_16 : (list list' : List ℕ) → (Passes → ⊥) → list' ≡ replicate (length list) 0 → Leaves (list_text number coordinates corners labels) list list' (Err NoSheet)
+  leaves_16 list list' n z = refused-leaves (list_text number coordinates corners labels) NoSheet list list' (ap (λ (b : Bool). cond b (written (text (edition number) (list_sheet coordinates corners labels))) (refused NoSheet)) (fails tests n)) z
 
   -- a test of the range that fails
   pub not_near : every (coordinate_in_range? (edition number).most) coordinates ≡ false → Passes → ⊥
   not_near e h = true_false (near_means.1 h.near) e
 
-  pub leaves-text : (list list' : List ℕ) (r : declared.Written) → sayable? number coordinates corners labels ≡ true → Leaves (written (text (edition number) (list_sheet coordinates corners labels))) list list' r → Leaves (list_text number coordinates corners labels) list list' r
-  leaves-text list list' r e h = subst (λ (b : Bool). Leaves (cond b (written (text (edition number) (list_sheet coordinates corners labels))) (refused 16)) list list' r) (sym e) h
+  pub leaves-text : (list list' : List ℕ) (r : Result ℕ Refusal) → sayable? number coordinates corners labels ≡ true → Leaves (written (text (edition number) (list_sheet coordinates corners labels))) list list' r → Leaves (list_text number coordinates corners labels) list list' r
+  leaves-text list list' r e h = subst (λ (b : Bool). Leaves (cond b (written (text (edition number) (list_sheet coordinates corners labels))) (refused NoSheet)) list list' r) (sym e) h
 
   -- ---- the sheet
 

@@ -1,198 +1,148 @@
 // Writes the text sheet of a triangle surface, in either edition, from lists of whole numbers. What a
 // sheet is, and its text, is the crate `sheet`; what a call leaves is `specs/Written.antt`.
-//
-// A place past the end of the list is counted and not written. So the parts need not ask whether there
-// is room: `settled` sees at the end how long the text is.
 #![tactic(auto)]
 
-ghost use Rattle.std.specs.Prelude.{◌≡◌, not, [], ◌∷◌, ◌+◌, ◌*◌, ◌≤◌, ◌<◌, ◌^◌, length, nat_abs};
-ghost use Rattle.std.specs.Int.Signed.{non_neg};
+ghost use Rattle.std.specs.Prelude.{◌≡◌, [], ◌∷◌, ◌+◌, ◌*◌, ◌≤◌, ◌<◌, ◌^◌, length};
 ghost use Rattle.surface.specs.Check.{every};
 ghost use Rattle.sheet.specs.Text as Text;
 ghost use Rattle.sheet.specs.Text.{lines};
-ghost use Rattle.sheet.specs.Edition.{edition};
+ghost use Rattle.sheet.specs.Edition.{rules_of};
 ghost use Rattle.sheet.specs.Sheet as Sheet;
 ghost use Rattle.sheet.specs.Sheet.{point_line, triangle_line};
 ghost use Rattle.sheet.specs.Stages.{ended, head_text};
 ghost use Rattle.writing.specs.Lists.{coordinate_in_range?, each, list_point, list_triangle, sheet_front};
 ghost use Rattle.writing.specs.Written.{list_text, Leaves};
-ghost use Rattle.writing.specs.Stages.{Put, SettledText};
+ghost use Rattle.writing.specs.Stages.{Put, Writes, SettledText};
 
-// The length of the text that was written, or the number of the refusal.
-#[derive(Clone, Copy)]
-pub enum Written {
-    Is(usize),
-    Refused(u32),
+use sheet::{Edition, Refusal};
+
+// The list that a text is written to, and the place after what is written. A place past the end of the
+// list is counted and not written. So the parts need not ask whether there is room: `settled` sees at the
+// end how long the text is.
+#[derive(Drop)]
+pub struct Writer<'a> {
+    pub written: &'a mut [u8],
+    pub at: usize,
 }
 
-// One byte.
-pub fn put(b: u8, at: usize, written: &mut [u8]) -> usize
-    requires { at < 2 ^ 32 }
-    ensures { Put (b ∷ []) 1 written.old written.new at result }
-{
-    if at >= written.len() {
-        return at + 1;
+impl Writer<'_> {
+    // One byte.
+    pub fn put(&mut self, b: u8)
+        requires { self.old.at < 2 ^ 32 }
+        ensures { Writes (b ∷ []) 1 self.old self.new }
+    {
+        if self.at < self.written.len() {
+            self.written[self.at] = b;
+        }
+        self.at += 1;
     }
-    written[at] = b;
-    at + 1
-}
 
-pub fn word(w: &[u8], at: usize, written: &mut [u8]) -> usize
-    requires { (at < 2 ^ 31) × (length w.now < 2 ^ 31) }
-    ensures { Put w.now (length w.now) written.old written.new at result }
-{
-    let mut next = at;
-    let mut k = 0;
-    while k < w.len() {
-        next = put(w[k], next, written);
-        k += 1;
+    pub fn word(&mut self, w: &[u8])
+        requires { (self.old.at < 2 ^ 31) × (length w.now < 2 ^ 31) }
+        ensures { Writes w.now (length w.now) self.old self.new }
+    {
+        for b in w {
+            self.put(*b);
+        }
     }
-    next
+
+    // The digits of a number. (A formatter would not count the places past the end.)
+    fn decimal(&mut self, v: u32)
+        requires { self.old.at < 2 ^ 31 }
+        ensures { Writes (Text.decimal v) 10 self.old self.new }
+    {
+        if v < 10 {
+            self.put(digit(v));
+            return;
+        }
+        self.decimal(v / 10);
+        self.put(digit(v % 10));
+    }
+
+    // A number and the byte that ends it.
+    pub fn field(&mut self, v: u32, end: u8)
+        requires { self.old.at < 2 ^ 31 }
+        ensures { Writes (ended (Text.decimal v) end) 11 self.old self.new }
+    {
+        self.decimal(v);
+        self.put(end);
+    }
+
+    // A coordinate and the byte that ends it.
+    fn coordinate(&mut self, z: i32, end: u8)
+        requires { self.old.at < 2 ^ 30 }
+        ensures { Writes (ended (Text.integer z) end) 12 self.old self.new }
+    {
+        if z < 0 {
+            self.put(b'-');
+        }
+        self.field(z.unsigned_abs(), end);
+    }
+
+    // The line of the point k.
+    fn point(&mut self, coordinates: &[i32], k: usize)
+        requires { (k * 3 + 2 < length coordinates.now) × (self.old.at < 2 ^ 29) }
+        ensures { Writes (point_line (list_point coordinates.now k)) 36 self.old self.new }
+    {
+        let p = k * 3;
+        self.coordinate(coordinates[p], b' ');
+        self.coordinate(coordinates[p + 1], b' ');
+        self.coordinate(coordinates[p + 2], b'\n');
+    }
+
+    // (`all_triangles` is a twin: over a closure its contract would be said at both calls.)
+    fn all_points(&mut self, coordinates: &[i32], count: usize)
+        requires { (count * 3 ≤ length coordinates.now) × (count ≤ 128) × (self.old.at < 2 ^ 20) }
+        ensures { Writes (lines point_line (each (list_point coordinates.now) count)) (count * 36) self.old self.new }
+    {
+        for k in 0..count {
+            self.point(coordinates, k);
+        }
+    }
+
+    // The line of the triangle k.
+    fn triangle(&mut self, corners: &[u32], labels: &[u8], k: usize)
+        requires { (k * 3 + 2 < length corners.now) × (k < length labels.now) × (self.old.at < 2 ^ 29) }
+        ensures { Writes (triangle_line (list_triangle corners.now labels.now k)) 44 self.old self.new }
+    {
+        let p = k * 3;
+        self.field(corners[p], b' ');
+        self.field(corners[p + 1], b' ');
+        self.field(corners[p + 2], b' ');
+        self.field(u32::from(labels[k]), b'\n');
+    }
+
+    fn all_triangles(&mut self, corners: &[u32], labels: &[u8], count: usize)
+        requires { (count * 3 ≤ length corners.now) × (count ≤ length labels.now) × (count ≤ 256) × (self.old.at < 2 ^ 20) }
+        ensures { Writes (lines triangle_line (each (list_triangle corners.now labels.now) count)) (count * 44) self.old self.new }
+    {
+        for k in 0..count {
+            self.triangle(corners, labels, k);
+        }
+    }
+
+    // What stands before the points.
+    fn head(&mut self, edition: Edition, n: u32, m: u32)
+        requires { self.old.at < 2 ^ 20 }
+        ensures { Writes (head_text (rules_of edition).opening n m) 55 self.old self.new }
+    {
+        self.word(edition.opening());
+        self.field(n, b' ');
+        self.field(m, b'\n');
+        self.word(b"x y z\n");
+    }
 }
 
 fn digit(d: u32) -> u8
     requires { d < 10 }
     ensures { result ≡ 48 + d }
 {
-    (48 + d) as u8
+    b'0' + d as u8
 }
 
-fn decimal(v: u32, at: usize, written: &mut [u8]) -> usize
-    requires { at < 2 ^ 31 }
-    ensures { Put (Text.decimal v) 10 written.old written.new at result }
-{
-    if v < 10 {
-        return put(digit(v), at, written);
-    }
-    let next = decimal(v / 10, at, written);
-    put(digit(v % 10), next, written)
-}
-
-// A number and the byte that ends it.
-pub fn field(v: u32, end: u8, at: usize, written: &mut [u8]) -> usize
-    requires { at < 2 ^ 31 }
-    ensures { Put (ended (Text.decimal v) end) 11 written.old written.new at result }
-{
-    let next = decimal(v, at, written);
-    put(end, next, written)
-}
-
-pub fn below_zero(z: i32) -> bool
-    ensures { result ≡ not (non_neg z) }
-{
-    z < 0
-}
-
-pub fn size(z: i32) -> u32
-    ensures { result ≡ nat_abs z }
-{
-    let wide = z as i64;
-    if wide < 0 {
-        return (-wide) as u32;
-    }
-    wide as u32
-}
-
-// A coordinate and the byte that ends it.
-fn coordinate(z: i32, end: u8, at: usize, written: &mut [u8]) -> usize
-    requires { at < 2 ^ 30 }
-    ensures { Put (ended (Text.integer z) end) 12 written.old written.new at result }
-{
-    let v = size(z);
-    if below_zero(z) {
-        let next = put(45, at, written);
-        return field(v, end, next, written);
-    }
-    field(v, end, at, written)
-}
-
-// The line of the point k.
-fn point(coordinates: &[i32], k: usize, at: usize, written: &mut [u8]) -> usize
-    requires { (k * 3 + 2 < length coordinates.now) × (at < 2 ^ 29) }
-    ensures { Put (point_line (list_point coordinates.now k)) 36 written.old written.new at result }
-{
-    let p = k * 3;
-    let x = coordinates[p];
-    let i = coordinate(x, 32, at, written);
-    let y = coordinates[p + 1];
-    let j = coordinate(y, 32, i, written);
-    let z = coordinates[p + 2];
-    coordinate(z, 10, j, written)
-}
-
-fn all_points(coordinates: &[i32], count: usize, at: usize, written: &mut [u8]) -> usize
-    requires { (count * 3 ≤ length coordinates.now) × (count ≤ 128) × (at < 2 ^ 20) }
-    ensures { Put (lines point_line (each (list_point coordinates.now) count)) (count * 36) written.old written.new at result }
-{
-    let mut next = at;
-    let mut k = 0;
-    while k < count {
-        next = point(coordinates, k, next, written);
-        k += 1;
-    }
-    next
-}
-
-// The line of the triangle k.
-fn triangle(corners: &[u32], labels: &[u8], k: usize, at: usize, written: &mut [u8]) -> usize
-    requires { (k * 3 + 2 < length corners.now) × (k < length labels.now) × (at < 2 ^ 29) }
-    ensures { Put (triangle_line (list_triangle corners.now labels.now k)) 44 written.old written.new at result }
-{
-    let p = k * 3;
-    let i = field(corners[p], 32, at, written);
-    let j = field(corners[p + 1], 32, i, written);
-    let l = field(corners[p + 2], 32, j, written);
-    field(wide(labels[k]), 10, l, written)
-}
-
-fn wide(b: u8) -> u32
-    ensures { result ≡ b }
-{
-    b as u32
-}
-
-fn all_triangles(
-    corners: &[u32],
-    labels: &[u8],
-    count: usize,
-    at: usize,
-    written: &mut [u8],
-) -> usize
-    requires { (count * 3 ≤ length corners.now) × (count ≤ length labels.now) × (count ≤ 256) × (at < 2 ^ 20) }
-    ensures { Put (lines triangle_line (each (list_triangle corners.now labels.now) count)) (count * 44) written.old written.new at result }
-{
-    let mut next = at;
-    let mut k = 0;
-    while k < count {
-        next = triangle(corners, labels, k, next, written);
-        k += 1;
-    }
-    next
-}
-
-// What stands before the counts.
-fn opening(number: u32, written: &mut [u8]) -> usize
-    ensures { Put (edition number).opening 27 written.old written.new 0 result }
-{
-    if number == 2 {
-        return word(b"edition points triangles\n2 ", 0, written);
-    }
-    word(b"points triangles\n", 0, written)
-}
-
-// What stands before the points.
-fn head(number: u32, n: u32, m: u32, written: &mut [u8]) -> usize
-    ensures { Put (head_text (edition number).opening n m) 55 written.old written.new 0 result }
-{
-    let i = opening(number, written);
-    let j = field(n, 32, i, written);
-    let k = field(m, 10, j, written);
-    word(b"x y z\n", k, written)
-}
-
-// The text of the sheet of the first n points and m triangles.
+// Writes the text of the sheet of the first n points and m triangles, and answers how long it is.
 pub fn text(
-    number: u32,
+    edition: Edition,
     n: usize,
     m: usize,
     coordinates: &[i32],
@@ -201,44 +151,44 @@ pub fn text(
     written: &mut [u8],
 ) -> usize
     requires { (n ≤ 128) × (m ≤ 256) × (n * 3 ≤ length coordinates.now) × (m * 3 ≤ length corners.now) × (m ≤ length labels.now) }
-    ensures { Put (Sheet.text (edition number) (sheet_front n m coordinates.now corners.now labels.now)) (2 ^ 20) written.old written.new 0 result }
+    ensures { Put (Sheet.text (rules_of edition) (sheet_front n m coordinates.now corners.now labels.now)) (2 ^ 20) written.old written.new 0 result }
 {
-    let i = head(number, n as u32, m as u32, written);
-    let j = all_points(coordinates, n, i, written);
-    let k = word(b"a b c label\n", j, written);
-    all_triangles(corners, labels, m, k, written)
+    let mut writer = Writer { written, at: 0 };
+    writer.head(edition, n as u32, m as u32);
+    writer.all_points(coordinates, n);
+    writer.word(b"a b c label\n");
+    writer.all_triangles(corners, labels, m);
+    writer.at
 }
 
 // Whether all coordinates are within ±most.
 fn within(coordinates: &[i32], most: u32) -> bool
     ensures { result ≡ every (coordinate_in_range? most) coordinates.now }
 {
-    let mut k = 0;
-    while k < coordinates.len() {
-        let z = coordinates[k];
-        if size(z) > most {
+    // `iter().all` knows no range of a signed element, and the loop does.
+    for z in coordinates {
+        if z.unsigned_abs() > most {
             return false;
         }
-        k += 1;
     }
     true
 }
 
-// What comes of a text that needs `count` bytes: 38 where it is not exact, then 35 where there is no room
-// for it. A refusal leaves zeros.
-pub fn settled(exact: bool, count: usize, written: &mut [u8]) -> Written
+// What comes of a text that needs `count` bytes: where it is not exact that is said first, and then that
+// there is no room for it. A refusal leaves zeros. (Both are asked in one place: their order is its promise.)
+pub fn settled(exact: bool, count: usize, written: &mut [u8]) -> Result<usize, Refusal>
     ensures { SettledText exact count written.old written.new result }
 {
     let room = count <= written.len();
     if !exact {
-        sheet::clear(written);
-        return Written::Refused(38);
+        written.fill(0);
+        return Err(Refusal::Inexact);
     }
     if !room {
-        sheet::clear(written);
-        return Written::Refused(35);
+        written.fill(0);
+        return Err(Refusal::NoRoom);
     }
-    Written::Is(count)
+    Ok(count)
 }
 
 // Writes a sheet of an edition: three coordinates for each point, and three corners and a label for each
@@ -249,33 +199,28 @@ pub fn write(
     corners: &[u32],
     labels: &[u8],
     written: &mut [u8],
-) -> Written
+) -> Result<usize, Refusal>
     ensures { Leaves (list_text number coordinates.now corners.now labels.now) written.old written.new result }
 {
-    sheet::clear(written);
-    if number < 1 {
-        return Written::Refused(16);
-    }
-    if number > 2 {
-        return Written::Refused(16);
-    }
+    written.fill(0); // also behind the text
+    let edition = Edition::try_from(number)?;
     let n = coordinates.len() / 3;
     if n * 3 < coordinates.len() {
-        return Written::Refused(16);
+        return Err(Refusal::NoSheet);
     }
     if n > 128 {
-        return Written::Refused(16);
+        return Err(Refusal::NoSheet);
     }
     let m = labels.len();
     if m > 256 {
-        return Written::Refused(16);
+        return Err(Refusal::NoSheet);
     }
     if corners.len() != m * 3 {
-        return Written::Refused(16);
+        return Err(Refusal::NoSheet);
     }
-    if !within(coordinates, sheet::most(number)) {
-        return Written::Refused(16);
+    if !within(coordinates, edition.most()) {
+        return Err(Refusal::NoSheet);
     }
-    let count = text(number, n, m, coordinates, corners, labels, written);
+    let count = text(edition, n, m, coordinates, corners, labels, written);
     settled(true, count, written)
 }

@@ -1,17 +1,15 @@
--- `checking::beyond` meets its contract. Assumes nothing.
-use Rattle.checking.specs.Stages.{tri_of}
-use mathlib.Core.Path.{ap, ◌∙◌}
+-- `checking::beyond` meets its contract.
+use Prim.Native.Nat.{ℕ}
+use mathlib.Core.Path.{◌≡◌}
+use mathlib.Core.Bool.{true, false}
 use lib.Dec.{leb}
-use native.Mathlib.Omega.{arith}
-use Rattle.checking.proofs.Turns.{out_a, out_b, out_c}
-use borrow.Author.Rules.{rules}
+use Rattle.std.proofs.Common.{rules, tests}
+use Rattle.std.proofs.lemmas.Iterator.{cases_from_any, YieldsList-from_slice}
+use Rattle.checking.proofs.Turns.{by-any}
 use Rattle.checking.proofs.beyond.Goals as goal
 
-pub returns-then-n-wide : goal.returns-then-n-wide
-returns-then-n-wide c = out_a c.args.n (tri_of c.args.t) (omega arith)
-
-pub returns-then-n-wide-2 : goal.returns-then-n-wide-2
-returns-then-n-wide-2 c = out_b c.args.n (tri_of c.args.t) (omega arith) (omega arith)
-
 pub returns : goal.returns
-returns c = ap (leb c.args.n) c.wide-3.ensures ∙ out_c c.args.n (tri_of c.args.t) (omega arith) (omega arith)
+returns c =
+    let n = c.args.n in
+    by-any n c.args.t _ (search rules)
+    (cases_from_any _ _ _ (λ (v : ℕ). leb n v ≡ true) (λ (v : ℕ). leb n v ≡ false) c.any.ensures.ran (YieldsList-from_slice c.args.t cc) (λ v q k. search (rules, tests)) (λ v q k. search (rules, tests)))

@@ -1,51 +1,57 @@
--- `checking::measure` meets its contract. The invariant: the fold over the triangles that are left, from the numbers so far, is the answer. The measure is what is left of the corners. Assumes nothing.
-use Prim.Native.Nat.{◌≤◌, ◌<◌, ◌+◌, ◌-◌, ◌/◌}
+-- `checking::measure` meets its contract: at the loop's head the fold over the triangles that are left, from the measures so far, is the answer.
 use mathlib.Core.Path.{◌≡◌, sym, ap, ◌∙◌}
 use mathlib.Core.List.{foldl}
-use lib.ListN.{length, drop}
 use native.Mathlib.Omega.{arith}
-use borrow.Author.Rules.{rules}
+use Prim.Native.Nat.{◌<◌}
+use lib.ListN.{length}
+use Rattle.std.specs.Slice.Iter.{chunks_exact_rest, chunks_exact_size}
+use Rattle.std.specs.Prelude.{Ok}
 use Rattle.surface.specs.Triangle.{triangles}
-use Rattle.quality.specs.Quality.{scale}
-use Rattle.checking.specs.declared.Verdict.{Verdict}
+use Rattle.questions.proofs.Telling.{handed_on}
+use Rattle.checking.specs.Verdict.{Verdict}
+use Rattle.checking.specs.Validate.{next}
 use Rattle.checking.proofs.Turns.{start, turn, fold_end, refused}
-use Rattle.checking.specs.Validate.{point_at, next, measured}
-use Rattle.checking.specs.declared.Verdict.TheVariants.{Accepted}
 use Rattle.checking.proofs.measure.Goals as goal
 
-pub loop-at-init : goal.loop-at-init
-loop-at-init c = (
-  omega arith,
-  c.factor-factor.ensures,
-  c.origin-origin.ensures,
-  start _ _,
-)
-
-pub step-requires : goal.step-requires
-step-requires c = (c.loop-at.invariant.1, c.loop-at.invariant.2)
-
-pub returns-in-Refused : goal.returns-in-Refused
-returns-in-Refused c =
-    let ps = c.args.points.now in
-    let cs = c.args.corners.now in
-    sym
-    (c.loop-at.invariant.3
-    ∙ turn ps cs c.loop-at.at c.loop-at.minimum c.loop-at.volume (omega arith) c.triangle-t.ensures c.step.ensures
-    ∙ ap (λ (x : Verdict). foldl (next ps) x (triangles (drop (c.loop-at.at + 3) cs))) c.in-Refused.is
-    ∙ refused ps _ (triangles (drop (c.loop-at.at + 3) cs)))
-
-pub loop-at-preserved : goal.loop-at-preserved
-loop-at-preserved c =
-    let ps = c.args.points.now in
-    let cs = c.args.corners.now in (
+pub loop-t-init : goal.loop-t-init
+loop-t-init c =
+    let i = c.into_iter-t-iterator.ensures.into_iter_gives in
+    let s : chunks_exact_size c.into_iter-t-iterator.result ≡ 3 = ap chunks_exact_size i ∙ c.chunks_exact-t-items.ensures.size in (
       omega arith,
-      c.loop-at.invariant.1,
-      c.loop-at.invariant.2,
-      c.loop-at.invariant.3
-          ∙ turn ps cs c.loop-at.at c.loop-at.minimum c.loop-at.volume (omega arith) c.triangle-t.ensures c.step.ensures
-          ∙ ap (λ (x : Verdict). foldl (next ps) x (triangles (drop (c.loop-at.at + 3) cs))) c.in-Accepted.is,
+      tt,
+      record {
+        scaled = c.factor-factor.ensures;
+        from-origin = c.origin-origin.ensures;
+        threes = s;
+        answer = start c.args.points.now c.args.corners.now ∙ ap (λ cs. foldl (next c.args.points.now) (Ok _) (triangles cs)) (sym (ap chunks_exact_rest i ∙ c.chunks_exact-t-items.ensures.rest));
+      },
+    )
+
+pub returns-in_err-so_far : goal.returns-in_err-so_far
+returns-in_err-so_far c =
+    let ps = c.args.points.now in
+    let left = chunks_exact_rest c.next.new.self in
+    let k = c.in-Some.ensures.steps.1 in
+    handed_on c.from_residual.result c.from_residual.ensures.1
+    ∙ sym (c.loop-t.invariant.2.answer ∙ turn ps c.loop-t.so_far c.in-Some.t.now _ left k.0 (k.1 ∙ c.loop-t.invariant.2.threes) c.step.ensures ∙ ap (λ (x : Verdict). foldl (next ps) x (triangles left)) c.in_err-so_far.was ∙ refused ps _ (triangles left))
+
+pub loop-t-preserved : goal.loop-t-preserved
+loop-t-preserved c =
+    let ps = c.args.points.now in
+    let left = chunks_exact_rest c.next.new.self in
+    let k = c.in-Some.ensures.steps.1 in
+    let s : chunks_exact_size c.next.new.self ≡ 3 = c.in-Some.ensures.steps.0 ∙ c.loop-t.invariant.2.threes in (
+      omega arith,
+      tt,
+      record {
+        scaled = c.loop-t.invariant.2.scaled;
+        from-origin = c.loop-t.invariant.2.from-origin;
+        threes = s;
+        answer = c.loop-t.invariant.2.answer ∙ turn ps c.loop-t.so_far c.in-Some.t.now _ left k.0 (k.1 ∙ c.loop-t.invariant.2.threes) c.step.ensures ∙ ap (λ (x : Verdict). foldl (next ps) x (triangles left)) c.in_ok-so_far.was;
+      },
     )
 
 pub returns : goal.returns
 returns c =
-    sym (c.loop-at.invariant.3 ∙ fold_end c.args.points.now c.args.corners.now c.loop-at.at (Accepted c.loop-at.minimum c.loop-at.volume) c.loop-at-test.false)
+    let l : length (chunks_exact_rest c.loop-t.t-iterator) < 3 = omega (arith, c.in-None.ensures.steps.1.0, c.loop-t.invariant.2.threes) in
+    sym (c.loop-t.invariant.2.answer ∙ fold_end c.args.points.now _ (Ok c.loop-t.so_far) l)

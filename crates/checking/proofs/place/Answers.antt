@@ -2,7 +2,6 @@
 use mathlib.Core.Path.{ap, ◌∙◌}
 use Rattle.float.specs.Point.{difference}
 use Rattle.float.specs.declared.Point.{Point}
-use borrow.Author.Rules.{rules}
 use Rattle.checking.proofs.place.Goals as goal
 
 pub returns : goal.returns

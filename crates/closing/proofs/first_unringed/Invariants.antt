@@ -1,19 +1,14 @@
 -- `closing::first_unringed` meets its contract: at the loop's head the corners below v are fine.
-use Prim.Native.Nat.{ℕ, ◌-◌, ◌≤◌, ◌<◌}
-use mathlib.Core.Path.{◌≡◌, refl, ◌∙◌, subst}
+use Prim.Native.Nat.{ℕ, ◌<◌}
+use mathlib.Core.Path.{◌≡◌}
 use mathlib.Core.List.{List}
-use native.Mathlib.Omega.{arith}
-use native.Mathlib.Numerals.{add-one}
 use lib.ListN.{length, drop}
-use borrow.Author.Count.{below_more}
-use borrow.Author.Tests.{not-true, not-false}
 use Rattle.halfedges.proofs.Fine.{Fine}
 use Rattle.halfedges.proofs.Whole.{Enough}
-use Rattle.closing.specs.Stages.{used, Ready, FirstUnringed}
+use Rattle.closing.specs.Stages.{used, Ready}
 use Rattle.closing.proofs.first_unringed.Given as goal
 
 pub record Going (c : List ℕ) (p m : ℕ) (w₀ w : List ℕ) (v : ℕ) : Type 0 where
-  pub low : v ≤ p
   pub size : length w ≡ length w₀
   pub ready : Ready c p w v
   pub far : drop (used c p) w ≡ drop (used c p) w₀
@@ -22,6 +17,3 @@ pub record Going (c : List ℕ) (p m : ℕ) (w₀ w : List ℕ) (v : ℕ) : Type
 
 abbrev pub invariant-loop-v : goal.invariant-loop-v
 invariant-loop-v l = Going l.corners l.points l.least l.initial.work l.work l.v
-
-abbrev pub decreases-loop-v : goal.decreases-loop-v
-decreases-loop-v l = l.points - l.v

@@ -3,7 +3,6 @@ use Prim.Native.Nat.{◌+◌}
 use mathlib.Core.Path.{◌∙◌}
 use native.Mathlib.Omega.{arith}
 use lib.ListN.{drop}
-use borrow.Author.Rules.{rules}
 use Rattle.closing.specs.Stages.{used}
 use Rattle.closing.proofs.Whole.{zero-at, sized-first, ready-first, far-on, far_clear}
 use Rattle.closing.proofs.prepare.Goals as goal

@@ -7,64 +7,26 @@ use Rattle.halfedges.specs.Place.{pv, last}
 use Rattle.halfedges.proofs.Fine.{pv-below}
 use Rattle.halfedges.proofs.Chains.{last_le}
 use Rattle.closing.specs.Locating.{StampsMean}
-use Rattle.closing.proofs.Stamping.{Turn, turn_at, Stamping, stamping_start, stamping_next, stamping_turn, stamping_ready}
+use Rattle.closing.proofs.Stamping.{Turn, turn_at, stamping_start, stamping_next, stamping_turn, stamping_ready}
 use Rattle.closing.proofs.stamp_origins.Goals as goal
-
-pub word-p-requires : goal.word-p-requires
-word-p-requires c = omega (arith, c.requires.ready.sized, c.requires.u_lt_points)
 
 pub loop-p-init : goal.loop-p-init
 loop-p-init c = stamping_start pv c.requires.ready (c.word-p.ensures ∙ c.requires.ready.linked.heads c.args.u c.requires.u_lt_points)
 
-turn : (c : goal.After-put-arg-1) → Turn pv c.args.corners.now c.args.points c.args.u c.loop-p.p (c.loop-p.p - 1) c.behind-x.result
+turn : (c : goal.After-word-p-in-loop-p) → Turn pv c.args.corners.now c.args.points c.args.u c.loop-p.p (c.loop-p.p - 1) c.behind-x.result
 turn c = let inv = c.loop-p.invariant in turn_at pv pv-below inv.sized inv.place c.loop-p-test.true c.behind-x.ensures
-
-turn-2 : (c : goal.After-slice_known-in-loop-p-1) → Turn pv c.args.corners.now c.args.points c.args.u c.loop-p.p (c.loop-p.p - 1) c.behind-x.result
-turn-2 c = let inv = c.loop-p.invariant in turn_at pv pv-below inv.sized inv.place c.loop-p-test.true c.behind-x.ensures
-
-turn-3 : (c : goal.After-word-p-in-loop-p) → Turn pv c.args.corners.now c.args.points c.args.u c.loop-p.p (c.loop-p.p - 1) c.behind-x.result
-turn-3 c = let inv = c.loop-p.invariant in turn_at pv pv-below inv.sized inv.place c.loop-p-test.true c.behind-x.ensures
 
 -- the next place of u
 next : (c : goal.After-word-p-in-loop-p) → c.word-p-in-loop-p.result ≡ last c.args.corners.now c.args.u (c.loop-p.p - 1)
 next c =
-    c.word-p-in-loop-p.ensures ∙ stamping_next c.loop-p.invariant (turn-3 c) (add-one c.args.u) c.put.ensures
-
-pub behind-x-requires : goal.behind-x-requires
-behind-x-requires c = let inv = c.loop-p.invariant in (inv.sized.thirds, inv.sized.few, omega (arith, inv.place.within))
-
-pub overflow_add-points : goal.overflow_add-points
-overflow_add-points c = omega (arith, (turn c).x-low, c.loop-p.invariant.sized)
-
-pub overflow_add-points-in-loop-p : goal.overflow_add-points-in-loop-p
-overflow_add-points-in-loop-p c = omega (arith, (turn c).x-low, c.loop-p.invariant.sized)
-
-pub overflow_add-u : goal.overflow_add-u
-overflow_add-u c = omega (arith, c.requires.u_lt_points, c.loop-p.invariant.sized)
-
-pub put-requires : goal.put-requires
-put-requires c =
-    let inv = c.loop-p.invariant in
-    (omega (arith, (turn c).x-low, inv.sized), omega (arith, c.requires.u_lt_points, inv.sized))
-
-pub overflow_add-points-in-loop-p-2 : goal.overflow_add-points-in-loop-p-2
-overflow_add-points-in-loop-p-2 c = omega (arith, (turn-2 c).low, c.loop-p.invariant.sized)
-
-pub overflow_add-points-in-loop-p-3 : goal.overflow_add-points-in-loop-p-3
-overflow_add-points-in-loop-p-3 c = omega (arith, (turn-2 c).low, c.loop-p.invariant.sized)
-
-pub overflow_add-points-in-loop-p-4 : goal.overflow_add-points-in-loop-p-4
-overflow_add-points-in-loop-p-4 c = omega (arith, (turn-2 c).low, c.loop-p.invariant.sized)
-
-pub word-p-requires-in-loop-p : goal.word-p-requires-in-loop-p
-word-p-requires-in-loop-p c = omega (arith, (turn-2 c).low, c.loop-p.invariant.sized, c.put.auto.work)
+    c.word-p-in-loop-p.ensures ∙ stamping_next c.loop-p.invariant (turn c) (add-one c.args.u) c.put.ensures
 
 pub loop-p-smaller : goal.loop-p-smaller
 loop-p-smaller c = omega (arith, next c, last_le c.args.corners.now c.args.u (c.loop-p.p - 1))
 
 pub loop-p-preserved : goal.loop-p-preserved
 loop-p-preserved c =
-    stamping_turn c.loop-p.invariant (turn-3 c) (add-one c.args.u) c.put.ensures (next c)
+    stamping_turn c.loop-p.invariant (turn c) (add-one c.args.u) c.put.ensures (next c)
 
 pub returns : goal.returns
 returns c =

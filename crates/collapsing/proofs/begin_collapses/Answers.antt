@@ -1,6 +1,5 @@
 -- `collapsing::begin_collapses` meets its contract.
 use Rattle.collapsing.proofs.Whole.{clean_of}
-use borrow.Author.Rules.{rules}
 use Rattle.collapsing.proofs.begin_collapses.Goals as goal
 
 pub returns : goal.returns

@@ -1,7 +1,6 @@
 -- `collapsing::mark_labels_at` meets its contract: the words from `carried` on are lent to `mark_labels`, and come back.
 use mathlib.Core.Path.{refl}
 use Rattle.collapsing.proofs.Lists.{carried_at}
-use borrow.Author.Rules.{rules}
 use Rattle.collapsing.proofs.mark_labels_at.Goals as goal
 
 pub returns : goal.returns

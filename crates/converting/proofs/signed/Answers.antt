@@ -1,19 +1,15 @@
--- `converting::signed` meets its contract. Assumes nothing.
-use mathlib.Core.Path.{refl, sym, ap, ◌∙◌}
-use mathlib.Core.Bool.{not}
+-- `converting::signed` meets its contract.
+use mathlib.Core.Path.{sym, ◌∙◌}
 use native.Mathlib.Omega.{arith}
-use lib.IntN.{ℤ}
-use lib.Signed.{non_neg}
-use Rattle.sheet.proofs.Signs.{back}
+use mir.Syntax.{w32}
+use mir.ValLaws.{to_z_pos}
+use Rattle.sheet.proofs.Signs.{minus-back}
+use Rattle.writing.proofs.Sizes.{below-zero}
 use Rattle.converting.proofs.Turning.{signed_below, signed_above}
 use Rattle.converting.proofs.signed.Goals as goal
 
-pub returns-then-below_zero : goal.returns-then-below_zero
-returns-then-below_zero c =
-    let z = c.args.z in
-    signed_below z c.args.size (omega arith) c.below.result c.below.ensures (ap (λ (y : ℤ). not (non_neg y)) (sym (back z z refl c.ranges.z.sfits)) ∙ sym c.below_zero.ensures ∙ c.if-below_zero.true)
+pub returns-then-z-lt0 : goal.returns-then-z-lt0
+returns-then-z-lt0 c = minus-back c.args.size (omega arith) ∙ signed_below c.args.z c.args.size (sym (below-zero c.args.z c.ranges.z) ∙ c.if-z-lt0.true)
 
 pub returns : goal.returns
-returns c =
-    let z = c.args.z in
-    signed_above z c.args.size (omega arith) c.above.result c.above.ensures (ap (λ (y : ℤ). not (non_neg y)) (sym (back z z refl c.ranges.z.sfits)) ∙ sym c.below_zero.ensures ∙ c.if-below_zero.false)
+returns c = to_z_pos w32 c.args.size (omega arith) ∙ signed_above c.args.z c.args.size (sym (below-zero c.args.z c.ranges.z) ∙ c.if-z-lt0.false)

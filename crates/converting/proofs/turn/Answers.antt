@@ -9,8 +9,9 @@ use lib.ListN.{set}
 use lib.Signed.{mag}
 use mir.Syntax.{w32}
 use mir.Val.{to_z, of_z}
-use Rattle.sheet.specs.Edition.{edition}
+use Rattle.sheet.specs.Edition.{edition, edition_number}
 use Rattle.sheet.specs.Conversion.{in_unit}
+use Rattle.sheet.proofs.Editions.{is_edition}
 use Rattle.sheet.proofs.Signs.{back}
 use Rattle.sheet.proofs.InUnit.{near-size, near_in_unit, unit-some, unit-small, most-small, same_ends}
 use Rattle.converting.specs.Stages.{signed_as}
@@ -23,34 +24,42 @@ scaled-is z asked size unit h s u = let e = s ∙ ap nat_abs (back z z refl h) i
 
 pub overflow_mul-scaled : goal.overflow_mul-scaled
 overflow_mul-scaled c =
-    let h : nat_abs c.args.z * (edition c.args.asked).unit < 2 ^ 64 = scaled_fits (nat_abs c.args.z) (edition c.args.asked).unit (le_trans c.requires.2 (most-small c.args.from c.requires.0)) (unit-small c.args.asked c.requires.1) in
-    omega (arith, scaled-is c.args.z c.args.asked c.size.result c.unit.result c.ranges.z.sfits c.size.ensures c.unit.ensures)
+    let f = edition_number c.args.from in
+    let a = edition_number c.args.asked in
+    let h : nat_abs c.args.z * (edition a).unit < 2 ^ 64 = scaled_fits (nat_abs c.args.z) (edition a).unit (le_trans c.requires.0 (most-small f (is_edition c.args.from))) (unit-small a (is_edition c.args.asked)) in
+    omega (arith, scaled-is c.args.z a c.from.result c.from-2.result c.ranges.z.sfits (c.from.ensures ∙ c.unsigned_abs.ensures.value) (c.from-2.ensures ∙ c.unit-2.ensures))
 
 pub nonzero_div-scaled : goal.nonzero_div-scaled
-nonzero_div-scaled c = subst (λ (n : ℕ). 0 < n) (sym c.unit-unit.ensures) (unit-some c.args.from c.requires.0)
+nonzero_div-scaled c = subst (λ (n : ℕ). 0 < n) (sym (c.from-unit.ensures ∙ c.unit.ensures)) (unit-some (edition_number c.args.from) (is_edition c.args.from))
 
-pub signed-w-requires : goal.signed-w-requires
-signed-w-requires c =
-    let n = (edition c.args.from).unit in
-    let m = (edition c.args.asked).unit in
-    let a = nat_abs c.args.z in
-    let h : a * m / n ≤ (edition c.args.asked).most = near-size n m (edition c.args.from).most (edition c.args.asked).most (unit-some c.args.from c.requires.0) (same_ends c.args.from c.args.asked c.requires.0 c.requires.1) a c.requires.2 in
-    let few = most-small c.args.asked c.requires.1 in
-    let scaled = scaled-is c.args.z c.args.asked c.size.result c.unit.result c.ranges.z.sfits c.size.ensures c.unit.ensures in
-    let e : c.size.result * c.unit.result / c.unit-unit.result ≡ a * m / n = (λ i. scaled i / c.unit-unit.ensures i) in
+pub signed-requires : goal.signed-requires
+signed-requires c =
+    let f = edition_number c.args.from in
+    let a = edition_number c.args.asked in
+    let n = (edition f).unit in
+    let m = (edition a).unit in
+    let size = nat_abs c.args.z in
+    let h : size * m / n ≤ (edition a).most = near-size n m (edition f).most (edition a).most (unit-some f (is_edition c.args.from)) (same_ends f a (is_edition c.args.from) (is_edition c.args.asked)) size c.requires.0 in
+    let few = most-small a (is_edition c.args.asked) in
+    let scaled = scaled-is c.args.z a c.from.result c.from-2.result c.ranges.z.sfits (c.from.ensures ∙ c.unsigned_abs.ensures.value) (c.from-2.ensures ∙ c.unit-2.ensures) in
+    let unit = c.from-unit.ensures ∙ c.unit.ensures in
+    let e : c.from.result * c.from-2.result / c.from-unit.result ≡ size * m / n = (λ i. scaled i / unit i) in
     omega arith
 
 pub nonzero_rem-result : goal.nonzero_rem-result
-nonzero_rem-result c = subst (λ (n : ℕ). 0 < n) (sym c.unit-unit.ensures) (unit-some c.args.from c.requires.0)
+nonzero_rem-result c = subst (λ (n : ℕ). 0 < n) (sym (c.from-unit.ensures ∙ c.unit.ensures)) (unit-some (edition_number c.args.from) (is_edition c.args.from))
 
 pub returns : goal.returns
 returns c =
     let z = c.args.z in
-    let n = (edition c.args.from).unit in
-    let m = (edition c.args.asked).unit in
-    let scaled = scaled-is c.args.z c.args.asked c.size.result c.unit.result c.ranges.z.sfits c.size.ensures c.unit.ensures in
+    let f = edition_number c.args.from in
+    let a = edition_number c.args.asked in
+    let n = (edition f).unit in
+    let m = (edition a).unit in
+    let scaled = scaled-is z a c.from.result c.from-2.result c.ranges.z.sfits (c.from.ensures ∙ c.unsigned_abs.ensures.value) (c.from-2.ensures ∙ c.unit-2.ensures) in
+    let unit = c.from-unit.ensures ∙ c.unit.ensures in
     record {
-      same = (λ i. eqb (scaled i % c.unit-unit.ensures i) 0);
+      same = (λ i. eqb (scaled i % unit i) 0);
       stored = ap (λ (y : ℤ). set c.args.coordinates.now c.args.k y)
-          (back c.signed-w.result _ (c.signed-w.ensures ∙ (λ i. signed_as (back z z refl c.ranges.z.sfits i) (scaled i / c.unit-unit.ensures i)) ∙ signed-unit n m z) (small_mag (in_unit n m z) (le_trans (near_in_unit n m (edition c.args.from).most (edition c.args.asked).most (unit-some c.args.from c.requires.0) (same_ends c.args.from c.args.asked c.requires.0 c.requires.1) z c.requires.2) (most-small c.args.asked c.requires.1))));
+          (back c.signed.result _ (c.signed.ensures ∙ (λ i. signed_as (back z z refl c.ranges.z.sfits i) (scaled i / unit i)) ∙ signed-unit n m z) (small_mag (in_unit n m z) (le_trans (near_in_unit n m (edition f).most (edition a).most (unit-some f (is_edition c.args.from)) (same_ends f a (is_edition c.args.from) (is_edition c.args.asked)) z c.requires.0) (most-small a (is_edition c.args.asked)))));
     }

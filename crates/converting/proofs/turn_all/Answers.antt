@@ -4,7 +4,7 @@ use Prim.Native.Nat.{◌≤◌}
 use native.Mathlib.Omega.{arith}
 use lib.IntN.{ℤ, pos, nat_abs}
 use lib.ListN.{get_or}
-use Rattle.sheet.specs.Edition.{edition}
+use Rattle.sheet.specs.Edition.{edition_number, rules_of}
 use Rattle.sheet.specs.Conversion.{fits?, in_unit}
 use Rattle.sheet.proofs.Signs.{back}
 use Rattle.converting.specs.Converting.{unit_of}
@@ -12,23 +12,23 @@ use Rattle.converting.proofs.Turning.{none-turned, next-is, one-turned, all-turn
 use Rattle.converting.proofs.turn_all.Goals as goal
 
 pub loop-k-init : goal.loop-k-init
-loop-k-init c = none-turned _ _ _ _ c.requires.2
+loop-k-init c = none-turned _ _ _ _ c.requires.0
 
-pub slice_copy_out-z : goal.slice_copy_out-z
-slice_copy_out-z c = omega (arith, c.loop-k.invariant.long, c.loop-k.invariant.kept)
+pub slice_copy_out-turn : goal.slice_copy_out-turn
+slice_copy_out-turn c = omega (arith, c.loop-k.invariant.long, c.loop-k.invariant.kept)
 
 pub turn-whole-requires : goal.turn-whole-requires
 turn-whole-requires c =
     let z = get_or c.loop-k.coordinates c.loop-k.k (pos 0) in
-    let e = back z z refl (omega arith) ∙ next-is (unit_of c.args.from) (unit_of c.args.asked) c.args.count c.args.coordinates.now c.loop-k.k c.loop-k.coordinates c.loop-k.same c.loop-k.invariant (omega arith) in
-    (c.requires.0, c.requires.1, subst (λ (y : ℤ). nat_abs y ≤ (edition c.args.from).most) (sym e) (c.requires.3 c.loop-k.k (omega arith)), omega (arith, c.loop-k.invariant.long, c.loop-k.invariant.kept))
+    let e = back z z refl (omega arith) ∙ next-is (unit_of (edition_number c.args.from)) (unit_of (edition_number c.args.asked)) c.args.count c.args.coordinates.now c.loop-k.k c.loop-k.coordinates c.loop-k.same c.loop-k.invariant (omega arith) in
+    (subst (λ (y : ℤ). nat_abs y ≤ (rules_of c.args.from).most) (sym e) (c.requires.1 c.loop-k.k (omega arith)), omega (arith, c.loop-k.invariant.long, c.loop-k.invariant.kept))
 
 pub loop-k-preserved : goal.loop-k-preserved
 loop-k-preserved c =
     let z = get_or c.loop-k.coordinates c.loop-k.k (pos 0) in
-    let e = back z z refl (omega arith) ∙ next-is (unit_of c.args.from) (unit_of c.args.asked) c.args.count c.args.coordinates.now c.loop-k.k c.loop-k.coordinates c.loop-k.same c.loop-k.invariant (omega arith) in
-    one-turned (unit_of c.args.from) (unit_of c.args.asked) c.args.count c.args.coordinates.now c.loop-k.k c.loop-k.coordinates _ c.loop-k.same c.turn-whole.result _ c.loop-k.invariant (omega arith) c.turn-whole.auto.coordinates c.turn-whole.ensures.stored (ap (in_unit (unit_of c.args.from) (unit_of c.args.asked)) e) (c.turn-whole.ensures.same ∙ ap (fits? (unit_of c.args.from) (unit_of c.args.asked)) e)
+    let e = back z z refl (omega arith) ∙ next-is (unit_of (edition_number c.args.from)) (unit_of (edition_number c.args.asked)) c.args.count c.args.coordinates.now c.loop-k.k c.loop-k.coordinates c.loop-k.same c.loop-k.invariant (omega arith) in
+    one-turned (unit_of (edition_number c.args.from)) (unit_of (edition_number c.args.asked)) c.args.count c.args.coordinates.now c.loop-k.k c.loop-k.coordinates _ c.loop-k.same c.turn-whole.result _ c.loop-k.invariant (omega arith) c.turn-whole.auto.coordinates c.turn-whole.ensures.stored (ap (in_unit (unit_of (edition_number c.args.from)) (unit_of (edition_number c.args.asked))) e) (c.turn-whole.ensures.same ∙ ap (fits? (unit_of (edition_number c.args.from)) (unit_of (edition_number c.args.asked))) e)
 
 pub returns : goal.returns
 returns c =
-    all-turned c.args.from c.args.asked c.args.count c.args.coordinates.now c.loop-k.coordinates c.loop-k.k c.loop-k.same c.loop-k.invariant (omega arith)
+    all-turned (edition_number c.args.from) (edition_number c.args.asked) c.args.count c.args.coordinates.now c.loop-k.coordinates c.loop-k.k c.loop-k.same c.loop-k.invariant (omega arith)

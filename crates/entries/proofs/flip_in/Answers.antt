@@ -6,4 +6,4 @@ use Prim.Native.Nat.{ℕ}
 use Rattle.entries.proofs.flip_in.Goals as goal
 
 pub returns : goal.returns
-returns c = c.put_triangle-2.ensures ∙ ap (λ (m : List ℕ). put_at m c.args.h.p2 (tri c.args.h.d c.args.h.c c.args.h.u)) c.put_triangle.ensures
+returns c = c.put_triangle-2.ensures ∙ ap (λ (m : List ℕ). put_at m c.args.h.later (tri c.args.h.d c.args.h.c c.args.h.u)) c.put_triangle.ensures

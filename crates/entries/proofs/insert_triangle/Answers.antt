@@ -6,4 +6,4 @@ use Prim.Native.Nat.{◌*◌}
 use Rattle.entries.proofs.insert_triangle.Goals as goal
 
 pub returns : goal.returns
-returns c = triangle_put c.args.p (tri_of c.args.t) (backward_lent (3 * c.args.p) c.args.corners.now c.shift_back.new.part (omega (arith, c.requires)) c.shift_back.ensures) c.requires c.put_triangle.ensures
+returns c = triangle_put c.args.p (tri_of c.args.t) (backward_lent (3 * c.args.p) c.args.corners.now c.shift_back.new.part (omega (arith, c.requires)) (c.shift_back.ensures 0)) c.requires c.put_triangle.ensures

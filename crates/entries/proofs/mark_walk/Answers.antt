@@ -1,33 +1,27 @@
 use Rattle.entries.proofs.Marks.{walking_start, walking_end, walking_fits, walking_below, walking_note, walking_on, front-zero}
-use Rattle.entries.proofs.Moved.{cleared-all}
+use Rattle.entries.proofs.Moved.{filled}
 use Rattle.entries.proofs.Acts.{listed-front}
 use Rattle.verdicts.proofs.Scan.{around-most}
 use Rattle.surface.proofs.Held.{length-held}
 use Rattle.surface.specs.Flat.{held}
-use lib.ListN.{length-set}
+use lib.ListN.{length, length-set}
 use lib.Seq.{length-take-le}
 use mathlib.Core.Path.{refl, sym, ◌∙◌, ap}
 use native.Mathlib.Omega.{arith}
-use Prim.Native.Nat.{ℕ, ◌-◌, ◌+◌}
+use Prim.Native.Nat.{ℕ, ◌-◌}
 use Rattle.entries.proofs.mark_walk.Goals as goal
 
-pub overflow_add-points : goal.overflow_add-points
-overflow_add-points c = omega (arith, c.requires.listed.bound)
-
-pub clear-requires : goal.clear-requires
-clear-requires c = omega (arith, c.requires.notes_len)
-
 pub slice_bounds-note_steps-end : goal.slice_bounds-note_steps-end
-slice_bounds-note_steps-end c = omega (arith, c.requires.notes_len, c.clear.auto.work)
+slice_bounds-note_steps-end c = omega (arith, c.requires.notes_len, c.fill.auto.self)
 
 pub slice_bounds-note_steps-end-2 : goal.slice_bounds-note_steps-end-2
-slice_bounds-note_steps-end-2 c = sym (length-take-le c.args.points c.clear.new.work (omega (arith, c.requires.notes_len, c.clear.auto.work)))
+slice_bounds-note_steps-end-2 c = sym (length-take-le c.args.points c.fill.new.self (omega (arith, c.requires.notes_len, c.fill.auto.self)))
 
 pub note_steps-requires : goal.note_steps-requires
-note_steps-requires c = record { listed = listed-front c.requires.listed c.clear.new.work (omega (arith, c.requires.notes_len, c.clear.auto.work)); by_index = front-zero c.args.points c.clear.new.work (cleared-all (c.args.points + c.args.points) c.args.notes.now c.clear.new.work c.requires.notes_len c.clear.ensures) }
+note_steps-requires c = record { listed = listed-front c.requires.listed c.fill.new.self (omega (arith, c.requires.notes_len, c.fill.auto.self)); by_index = front-zero c.args.points c.fill.new.self (filled (length c.args.notes.now) c.fill.new.self (c.fill.ensures.after (λ y e. e))) }
 
 pub loop-z-init : goal.loop-z-init
-loop-z-init c = walking_start c.requires.listed c.requires.routed c.clear.new.work c.note_steps.new.notes (cleared-all (c.args.points + c.args.points) c.args.notes.now c.clear.new.work c.requires.notes_len c.clear.ensures) (c.clear.auto.work ∙ c.requires.notes_len) c.note_steps.auto.notes c.note_steps.ensures.notes c.wide-z.result c.wide-z.ensures
+loop-z-init c = walking_start c.requires.listed c.requires.routed c.fill.new.self c.note_steps.new.notes (filled (length c.args.notes.now) c.fill.new.self (c.fill.ensures.after (λ y e. e))) (c.fill.auto.self ∙ c.requires.notes_len) c.note_steps.auto.notes c.note_steps.ensures.notes c.wide-z.result c.wide-z.ensures
 
 pub overflow_add-notes : goal.overflow_add-notes
 overflow_add-notes c = omega (arith, walking_below c.loop-z.invariant (λ e. c.loop-z-test.true (e ∙ sym c.wide-end.ensures)), c.requires.listed.bound)

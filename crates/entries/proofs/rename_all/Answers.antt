@@ -1,5 +1,4 @@
 -- `entries::rename_all` meets its contract: the words below i have their new names.
-use borrow.Author.Rules.{rules}
 use Rattle.entries.proofs.Words.{wording_end}
 use Rattle.entries.proofs.Turns.{turning_start, turning_on}
 use Rattle.surface.specs.Edit.{put}
@@ -8,12 +7,12 @@ use native.Mathlib.Omega.{arith}
 use Rattle.entries.proofs.rename_all.Goals as goal
 
 pub loop-i-init : goal.loop-i-init
-loop-i-init c = (search rules, turning_start _ _)
+loop-i-init c = turning_start _ _ _
 
 pub loop-i-preserved : goal.loop-i-preserved
 loop-i-preserved c =
-    (search rules, turning_on c.loop-i.invariant.1 (omega arith) c.put_for.result (c.put_for.ensures ∙ ap (put c.args.a c.args.b) (c.loop-i.invariant.1.left c.loop-i.i (omega arith))))
+    turning_on c.loop-i.invariant (omega (arith, c.requires)) c.put_for.result (c.put_for.ensures ∙ ap (put c.args.a c.args.b) (c.loop-i.invariant.left c.loop-i.i (omega arith)))
 
 pub returns : goal.returns
 returns c =
-    wording_end (put c.args.a c.args.b) c.args.n c.loop-i.invariant.1 (omega arith) c.requires
+    wording_end (put c.args.a c.args.b) c.args.n c.loop-i.invariant (omega arith) c.requires

@@ -2,31 +2,30 @@
 use native.Mathlib.Omega.{arith}
 use Prim.Native.Nat.{◌+◌}
 use Rattle.flips.proofs.Steps.{evens-is}
-use borrow.Author.Rules.{rules}
 use Rattle.flips.proofs.evens.Goals as goal
 
 pub overflow_add-x : goal.overflow_add-x
 overflow_add-x c =
-    let x = c.shared_slice_known-1.given (c.args.degrees + c.args.q.u) in
-    let y = c.shared_slice_known-1.given (c.args.degrees + c.args.q.v) in
-    let z = c.shared_slice_known-1.given (c.args.degrees + c.args.q.c) in
-    let t = c.shared_slice_known-1.given (c.args.degrees + c.args.q.d) in
+    let x = c.type_inv.work (c.args.degrees + c.args.q.u) in
+    let y = c.type_inv.work (c.args.degrees + c.args.q.v) in
+    let z = c.type_inv.work (c.args.degrees + c.args.q.c) in
+    let t = c.type_inv.work (c.args.degrees + c.args.q.d) in
     omega arith
 
 pub overflow_add-y : goal.overflow_add-y
 overflow_add-y c =
-    let x = c.shared_slice_known-1.given (c.args.degrees + c.args.q.u) in
-    let y = c.shared_slice_known-1.given (c.args.degrees + c.args.q.v) in
-    let z = c.shared_slice_known-1.given (c.args.degrees + c.args.q.c) in
-    let t = c.shared_slice_known-1.given (c.args.degrees + c.args.q.d) in
+    let x = c.type_inv.work (c.args.degrees + c.args.q.u) in
+    let y = c.type_inv.work (c.args.degrees + c.args.q.v) in
+    let z = c.type_inv.work (c.args.degrees + c.args.q.c) in
+    let t = c.type_inv.work (c.args.degrees + c.args.q.d) in
     omega arith
 
 pub overflow_add-result : goal.overflow_add-result
 overflow_add-result c =
-    let x = c.shared_slice_known-1.given (c.args.degrees + c.args.q.u) in
-    let y = c.shared_slice_known-1.given (c.args.degrees + c.args.q.v) in
-    let z = c.shared_slice_known-1.given (c.args.degrees + c.args.q.c) in
-    let t = c.shared_slice_known-1.given (c.args.degrees + c.args.q.d) in
+    let x = c.type_inv.work (c.args.degrees + c.args.q.u) in
+    let y = c.type_inv.work (c.args.degrees + c.args.q.v) in
+    let z = c.type_inv.work (c.args.degrees + c.args.q.c) in
+    let t = c.type_inv.work (c.args.degrees + c.args.q.d) in
     omega arith
 
 pub returns : goal.returns

@@ -1,6 +1,5 @@
 -- `flips::flip_corners` meets its contract, by that of `put_triangle`. Assumes nothing.
 use Rattle.flips.proofs.Steps.{triangles-put}
-use borrow.Author.Rules.{rules}
 use Rattle.flips.proofs.flip_corners.Goals as goal
 
 pub returns : goal.returns

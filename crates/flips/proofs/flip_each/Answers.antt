@@ -1,16 +1,15 @@
 -- `flips::flip_each` meets its contract. Assumes nothing.
 use native.Mathlib.Omega.{arith}
-use Prim.Native.Nat.{◌-◌}
-use Rattle.oracle.specs.Scene.{scene}
-use Rattle.flips.proofs.Turns.{Flipping, flip_starts, flip-ready, flip-room, flip-place, flip_turn, flip-ends, tried-small}
+use Rattle.flips.proofs.Turns.{flip_starts, flip-ready, flip-room, flip-place, flip_turn, flip-ends}
+use Rattle.chains.proofs.Bits.{bit_most}
 use Rattle.flips.proofs.flip_each.Goals as goal
 
 pub loop-i-init : goal.loop-i-init
 loop-i-init c =
-    flip_starts (scene c.args.points.now c.args.coefficients.now c.args.powers.now) c.args.corners.now c.args.labels.now c.args.heads c.args.work.now c.args.touched c.args.sides c.args.count c.requires.by_index
+    flip_starts _ _ _ _ _ _ _ _ c.requires.by_index
 
-pub overflow_add-sides : goal.overflow_add-sides
-overflow_add-sides c =
+pub overflow_add-areas : goal.overflow_add-areas
+overflow_add-areas c =
     let g = c.requires.standing in
     let h = c.requires.ready in
     let n = c.loop-i.invariant.size in
@@ -23,12 +22,12 @@ word-k-requires c =
     let n = c.loop-i.invariant.size in
     omega arith
 
-pub flip_side-x-requires : goal.flip_side-x-requires
-flip_side-x-requires c = record { ready = flip-ready (scene c.args.points.now c.args.coefficients.now c.args.powers.now) c.args.corners.now c.args.labels.now c.args.heads c.args.work.now c.args.across c.args.begun c.args.kept c.args.touched c.args.sides c.args.count c.requires.ready c.requires.standing c.loop-i.corners c.loop-i.work c.loop-i.i c.loop-i.flips c.loop-i.invariant; corners_in_bounds = flip-room (scene c.args.points.now c.args.coefficients.now c.args.powers.now) c.args.corners.now c.args.labels.now c.args.heads c.args.work.now c.args.across c.args.begun c.args.kept c.args.touched c.args.sides c.args.count c.requires.ready c.requires.standing c.loop-i.corners c.loop-i.work c.loop-i.i c.loop-i.flips c.loop-i.invariant; k_in_bounds = (flip-place (scene c.args.points.now c.args.coefficients.now c.args.powers.now) c.args.corners.now c.args.labels.now c.args.heads c.args.work.now c.args.across c.args.begun c.args.kept c.args.touched c.args.sides c.args.count c.requires.ready c.requires.standing c.loop-i.corners c.loop-i.work c.loop-i.i c.loop-i.flips c.loop-i.invariant c.loop-i-test.true _ c.word-k.ensures).1 }
+pub flip_side-flipped-requires : goal.flip_side-flipped-requires
+flip_side-flipped-requires c = record { ready = flip-ready _ _ _ _ _ _ _ _ _ _ _ c.requires.ready c.requires.standing _ _ _ _ c.loop-i.invariant; corners_in_bounds = flip-room _ _ _ _ _ _ _ _ _ _ _ c.requires.ready c.requires.standing _ _ _ _ c.loop-i.invariant; k_in_bounds = (flip-place _ _ _ _ _ _ _ _ _ _ _ c.requires.ready c.requires.standing _ _ _ _ c.loop-i.invariant c.loop-i-test.true _ c.word-k.ensures).1 }
 
 pub overflow_add-flips : goal.overflow_add-flips
 overflow_add-flips c =
-    let b = tried-small c.flip_side-x.ensures in
+    let x = bit_most c.flip_side-flipped.result _ c.from-flips.ensures in
     let m = c.loop-i.invariant.few in
     let g = c.requires.standing in
     let h = c.requires.ready in
@@ -37,8 +36,8 @@ overflow_add-flips c =
 
 pub loop-i-preserved : goal.loop-i-preserved
 loop-i-preserved c =
-    flip_turn (scene c.args.points.now c.args.coefficients.now c.args.powers.now) c.args.corners.now c.args.labels.now c.args.heads c.args.work.now c.args.across c.args.begun c.args.kept c.args.touched c.args.sides c.args.count c.requires.ready c.requires.standing c.loop-i.corners c.loop-i.work c.loop-i.i c.loop-i.flips c.loop-i.invariant c.loop-i-test.true _ c.word-k.ensures _ _ _ c.flip_side-x.ensures
+    flip_turn _ _ _ _ _ _ _ _ _ _ _ c.requires.ready c.requires.standing _ _ _ _ c.loop-i.invariant c.loop-i-test.true _ c.word-k.ensures _ _ _ _ c.from-flips.ensures c.flip_side-flipped.ensures
 
 pub returns : goal.returns
 returns c =
-    flip-ends (scene c.args.points.now c.args.coefficients.now c.args.powers.now) c.args.corners.now c.args.labels.now c.args.heads c.args.work.now c.args.across c.args.begun c.args.kept c.args.touched c.args.sides c.args.count c.requires.ready c.requires.standing c.loop-i.corners c.loop-i.work c.loop-i.i c.loop-i.flips c.loop-i.invariant c.loop-i-test.false
+    flip-ends _ _ _ _ _ _ _ _ _ _ _ c.requires.ready c.requires.standing _ _ _ _ c.loop-i.invariant c.loop-i-test.false

@@ -1,12 +1,9 @@
 -- `flips::keep_scores` meets its contract. Assumes nothing.
 use mathlib.Core.Path.{ap}
 use native.Mathlib.Omega.{arith}
-use Prim.Native.Nat.{◌-◌, ◌≤◌}
-use mathlib.Core.Path.{◌≡◌, refl, ◌∙◌}
+use mathlib.Core.Path.{refl, ◌∙◌}
 use lib.ListN.{length}
-use Rattle.oracle.specs.Scene.{scene}
 use Rattle.scores.proofs.Words.{put-length}
-use Rattle.flips.specs.Quads.{Shaped}
 use Rattle.flips.proofs.Turns.{shaped_none, shaped_more, shaped_same}
 use Rattle.flips.proofs.keep_scores.Goals as goal
 

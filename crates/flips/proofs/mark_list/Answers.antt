@@ -1,6 +1,5 @@
 -- `flips::mark_list` meets its contract, by those of the functions that it calls. Assumes nothing.
 use Rattle.flips.proofs.Stages.{list-marking, list-made}
-use borrow.Author.Rules.{rules}
 use Rattle.flips.proofs.mark_list.Goals as goal
 
 pub mark_across-requires : goal.mark_across-requires

@@ -1,7 +1,6 @@
 -- `flips::quad_at` meets its contract. Assumes nothing.
 use Rattle.flips.proofs.Steps.{quad_swapped, quad_ahead}
 use Rattle.flips.specs.Quads.{begun_at}
-use borrow.Author.Rules.{rules}
 use Rattle.flips.proofs.quad_at.Goals as goal
 
 pub returns-then-t-k : goal.returns-then-t-k

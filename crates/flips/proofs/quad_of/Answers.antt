@@ -1,7 +1,6 @@
 -- `flips::quad_of` meets its contract. Assumes nothing.
 use native.Mathlib.Omega.{arith}
 use Rattle.flips.proofs.Steps.{pv-room, quad_is}
-use borrow.Author.Rules.{rules}
 use Rattle.flips.proofs.quad_of.Goals as goal
 
 pub word-requires-4 : goal.word-requires-4

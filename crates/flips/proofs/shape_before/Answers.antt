@@ -1,6 +1,5 @@
 -- `flips::shape_before` meets its contract. Assumes nothing.
 use Rattle.flips.proofs.Steps.{before-is}
-use borrow.Author.Rules.{rules}
 use Rattle.flips.proofs.shape_before.Goals as goal
 
 pub returns : goal.returns

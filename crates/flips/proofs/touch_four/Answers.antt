@@ -1,6 +1,5 @@
 -- `flips::touch_four` meets its contract, by that of `put`. Assumes nothing.
 use Rattle.flips.proofs.Steps.{four-put}
-use borrow.Author.Rules.{rules}
 use Rattle.flips.proofs.touch_four.Goals as goal
 
 pub returns : goal.returns

@@ -1,12 +1,9 @@
--- `float::digits` meets its contract. Each turn is one `Step` of `Digit`, and what the recurrence gives from where the loop stands is what it gives from its start.
--- The measure is the number of digits to come. Assumes nothing.
+-- `float::digits` meets its contract. Each turn is one `Step` of `Digit`, and what the recurrence gives from where the loop stands is what it gives from its start. Assumes nothing.
 use mathlib.Core.Path.{◌≡◌}
 use Prim.Native.Nat.{ℕ, ◌-◌, ◌*◌, ◌^◌, ◌≤◌, ◌<◌}
 use Rattle.float.specs.Digits.{recurrence}
 use Rattle.float.proofs.digits.Given as goal
 
--- `float::digits` meets its contract. Each turn is one `Step` of `Digit`, and what the recurrence gives from where the loop stands is what it gives from its start.
--- The measure is the number of digits to come. Assumes nothing.
 -- where the loop stands, with l digits to come: the recurrence goes on to n from here
 pub record Going (n l r s b : ℕ) : Type 0 where
   pub most : l ≤ 53
@@ -15,8 +12,5 @@ pub record Going (n l r s b : ℕ) : Type 0 where
   pub word : b < 2 ^ 64
   pub same : recurrence l r s b ≡ n
 
-abbrev pub invariant-loop-left : goal.invariant-loop-left
-invariant-loop-left l = Going (recurrence l.initial.left l.initial.root l.initial.rest l.initial.bits) l.left l.root l.rest l.bits
-
-abbrev pub decreases-loop-left : goal.decreases-loop-left
-decreases-loop-left l = l.left
+abbrev pub invariant-loop : goal.invariant-loop
+invariant-loop l = Going (recurrence l.initial.left l.initial.root l.initial.rest l.initial.bits) (l.left - l.counter) l.root l.rest l.bits

@@ -6,7 +6,6 @@ use native.Mathlib.Omega.{arith}
 use lib.Pow.{pow_pos}
 use Rattle.float.specs.Root.{nearest_root}
 use Rattle.float.specs.Digits.{radicand}
-use Rattle.float.specs.Guess.{if_beside}
 use Rattle.float.proofs.DigitLaw.{digit_law}
 use Rattle.float.proofs.Between.{Between, nearest-between, more_than, at_most}
 use Rattle.float.proofs.Test.{beside-is}
@@ -35,14 +34,11 @@ found w r h e = (e, low (more_than b (2 ^ 52 - 1) (omega (arith, h.0))), high (a
     high : r ≤ 2 ^ 53 - 1 → r < 2 ^ 53
     high l = omega arith
 
-tested : (g q r : ℕ) → r ≡ if_beside g q → (r ≡ 0 → ⊥) → r ≡ q
-tested g q r e n = e ∙ beside-is g q (λ z. n (e ∙ z))
-
-pub returns-then-r-ne0 : goal.returns-then-r-ne0
-returns-then-r-ne0 c =
+pub returns-in-Some : goal.returns-in-Some
+returns-in-Some c =
     let w = c.args.wide in
-    let t = c.nearest_of_three-r in
-    found w t.result c.requires (tested c.guess.result (nearest_root (w * 2 ^ 52) 0) t.result t.ensures c.if-r-ne0.true)
+    let r = c.in-Some.r in
+    found w r c.requires (beside-is c.guess.result (nearest_root (w * 2 ^ 52) 0) r (sym c.in-Some.is ∙ c.nearest_of_three.ensures))
 
 pub returns : goal.returns
 returns c =

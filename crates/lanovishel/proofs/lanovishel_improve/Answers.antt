@@ -4,12 +4,10 @@ use native.Mathlib.Omega.{arith}
 use mathlib.Core.Path.{◌≡◌, refl, sym, ap, ◌∙◌, subst}
 use mathlib.Core.List.{List, [], ◌∷◌}
 use lib.Ieee.{Float}
-use Rattle.improving.specs.Improve.{Improving, number_of, points_of, triangles_of, flips_of, place_of}
-use Rattle.improving.specs.declared.Outcome.{Outcome}
-use Rattle.improving.specs.declared.Outcome.TheVariants.{Improved, Refused}
+use Rattle.std.specs.Prelude.{Ok, Err}
+use Rattle.improving.specs.Improve.{Outcome, Improving, number_of, points_of, triangles_of, flips_of, place_of}
 use Rattle.improving.proofs.Demand3.{left-few}
 use Rattle.lanovishel.specs.Improve.{ImproveCall}
-use borrow.Author.Rules.{rules}
 use Rattle.lanovishel.proofs.lanovishel_improve.Goals as goal
 
 -- the counts fit a word
@@ -18,8 +16,8 @@ word n x l e = e ∙ omega arith
 
 module _ {points₀ : List Float} {corners₀ labels₀ work₀ : List ℕ} {coefficients : List Float} {powers : List ℕ} {levels bounds : List Float} {rounds : ℕ} {points₁ : List Float} {corners₁ labels₁ work₁ : List ℕ} where
   few : (r : Outcome) → Improving points₀ corners₀ labels₀ work₀ coefficients powers levels bounds rounds points₁ corners₁ labels₁ work₁ r → (points_of r ≤ 32768) × (triangles_of r ≤ 32768)
-  few (Improved p t k) d = left-few d
-  few (Refused number) d = (omega arith, omega arith)
+  few (Ok left) d = left-few d
+  few (Err why) d = (omega arith, omega arith)
 
   handed : {r : Outcome} → Improving points₀ corners₀ labels₀ work₀ coefficients powers levels bounds rounds points₁ corners₁ labels₁ work₁ r → (v : Outcome) → r ≡ v
       → (x y z : ℕ) → x ≡ points_of v % 2 ^ 32 → y ≡ triangles_of v % 2 ^ 32 → z ≡ flips_of v → {place : List ℕ} {number : ℕ} → place ≡ place_of v → number ≡ number_of v
@@ -34,10 +32,6 @@ module _ {points₀ : List Float} {corners₀ labels₀ work₀ : List ℕ} {coe
         place = a ∙ ap place_of (sym e);
       }
 
-pub returns-in-Improved : goal.returns-in-Improved
-returns-in-Improved c =
-    handed c.improve.ensures _ c.in-Improved.is _ _ _ c.low_word.ensures c.low_word-in-Improved.ensures refl refl refl
-
-pub returns-in-Refused : goal.returns-in-Refused
-returns-in-Refused c =
-    handed c.improve.ensures _ c.in-Refused.is _ _ _ refl refl refl c.place.ensures c.number.ensures
+pub returns-in-Ok : goal.returns-in-Ok
+returns-in-Ok c =
+    handed c.improve.ensures _ c.in-Ok.is _ _ _ c.low_word.ensures c.low_word-in-Ok.ensures refl refl refl

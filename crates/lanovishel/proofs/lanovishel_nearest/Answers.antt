@@ -5,11 +5,9 @@ use mathlib.Core.List.{List, [], ◌∷◌}
 use native.Mathlib.Omega.{arith}
 use lib.ListN.{length}
 use lib.Ieee.{Float}
-use borrow.Author.Rules.{rules}
 use Rattle.questions.specs.Questions.{work_after}
-use Rattle.questions.specs.Refusal.{asked_number}
-use Rattle.questions.specs.declared.Asked.{Asked}
-use Rattle.questions.specs.declared.Asked.TheVariants.{Passed}
+use Rattle.questions.specs.Refusal.{Asked, asked_number}
+use Rattle.std.specs.Prelude.{Ok}
 use Rattle.nearest.specs.Call.{places_filled, answers_after, Replies}
 use Rattle.nearest.proofs.Questions.{admitted}
 use Rattle.lanovishel.specs.Nearest.{NearestCall}
@@ -25,16 +23,12 @@ module _ {points : List Float} {corners labels work work' : List ℕ} {probes : 
   }
 
   -- at most 64 probes pass
-  whole-count : q ≡ Passed → {count : ℕ} → count ≡ length probes / 3 % 2 ^ 32 → count ≡ length probes / 3
+  whole-count : q ≡ Ok tt → {count : ℕ} → count ≡ length probes / 3 % 2 ^ 32 → count ≡ length probes / 3
   whole-count p c = c ∙ small (length probes / 3) (admitted points corners labels work probes (length answers) (sym d.answer ∙ e ∙ p)).askable.few
     where
       small : (n : ℕ) → n ≤ 64 → n % 2 ^ 32 ≡ n
       small n h = omega arith
 
-pub returns-in-Passed : goal.returns-in-Passed
-returns-in-Passed c =
-    handed c.nearest.ensures c.in-Passed.is refl (whole-count c.nearest.ensures c.in-Passed.is refl c.low_word.ensures)
-
-pub returns-in-Refused : goal.returns-in-Refused
-returns-in-Refused c =
-    handed c.nearest.ensures c.in-Refused.is c.number.ensures refl
+pub returns-in-Ok : goal.returns-in-Ok
+returns-in-Ok c =
+    handed c.nearest.ensures c.in-Ok.is refl (whole-count c.nearest.ensures c.in-Ok.is refl c.low_word.ensures)

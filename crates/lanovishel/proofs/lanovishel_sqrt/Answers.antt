@@ -6,7 +6,6 @@ use Rattle.float.specs.Root.{root}
 use Rattle.float.specs.Nearest.{IsRoot}
 use Rattle.float.proofs.Nearest.{root_correct}
 use Rattle.lanovishel.specs.Root.{SquareRoot}
-use borrow.Author.Rules.{rules}
 use Rattle.lanovishel.proofs.lanovishel_sqrt.Goals as goal
 
 rooted : (x r : Float) → T (fits binary64 x) → r ≡ root binary64 x → SquareRoot x r

@@ -1,7 +1,6 @@
 -- `layers::level` meets its contract: the cast is exact, and so is the product with a power of two. Assumes nothing.
-use mathlib.Core.Path.{sym, subst}
-use lib.IntN.{ℤ}
-use lib.Ieee.{binary64, of_int, mul}
+use mathlib.Core.Path.{sym, ap, ◌∙◌, subst}
+use lib.Ieee.{Float, binary64, of_int, mul}
 use mir.Syntax.{w32}
 use mir.ValLaws.{to_z-of_z}
 use Rattle.rounding.specs.Fraction.{Is}
@@ -11,4 +10,4 @@ use Rattle.layers.proofs.level.Goals as goal
 pub returns : goal.returns
 returns c =
     let h = c.args.height in
-    subst (λ (z : ℤ). Is (mul binary64 (of_int binary64 z) unit) h 1024) (sym (to_z-of_z w32 h c.ranges.height)) (level_holds h c.requires).is
+    subst (λ (x : Float). Is (mul binary64 x unit) h 1024) (sym (c.from.ensures ∙ ap (of_int binary64) (to_z-of_z w32 h c.ranges.height))) (level_holds h c.requires).is

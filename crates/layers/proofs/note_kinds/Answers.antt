@@ -17,7 +17,7 @@ loop-v-preserved c =
     record {
       low = omega arith;
       long = length-set c.loop-v.work (c.args.base + c.loop-v.v) _ ∙ i.long;
-      noted = noted_turn c.args.points.now c.args.level c.args.base c.args.work.now c.loop-v.work c.loop-v.v _ i.noted c.loop-v-test.true (omega (arith, i.long)) (bit_one (lt c.args.level (get_or c.args.points.now (3 * c.loop-v.v + 2) nan)));
+      noted = noted_turn c.args.points.now c.args.level c.args.base c.args.work.now c.loop-v.work c.loop-v.v _ i.noted c.loop-v-test.true (omega (arith, i.long)) (c.from.ensures ∙ bit_one (lt c.args.level (get_or c.args.points.now (3 * c.loop-v.v + 2) nan)));
     }
 
 pub returns : goal.returns

@@ -1,5 +1,5 @@
 -- `layers::note_kinds` meets its contract: a turn notes a point more. Assumes nothing.
-use Prim.Native.Nat.{ℕ, ◌-◌, ◌/◌, ◌≤◌}
+use Prim.Native.Nat.{ℕ, ◌/◌, ◌≤◌}
 use mathlib.Core.Path.{◌≡◌}
 use mathlib.Core.List.{List}
 use lib.ListN.{length}
@@ -14,6 +14,3 @@ pub record Noting (points : List Float) (level : Float) (base : ℕ) (w₀ w : L
 
 abbrev pub invariant-loop-v : goal.invariant-loop-v
 invariant-loop-v l = Noting l.points l.level l.base l.initial.work l.work l.v
-
-abbrev pub decreases-loop-v : goal.decreases-loop-v
-decreases-loop-v l = length l.points / 3 - l.v

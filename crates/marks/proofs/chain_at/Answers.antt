@@ -1,7 +1,6 @@
 -- `marks::chain_at` meets its contract: the words from `chains` on are lent to `chain_places`, and come back.
 use mathlib.Core.Path.{refl}
 use Rattle.chains.proofs.Clear.{chained-at}
-use borrow.Author.Rules.{rules}
 use Rattle.marks.proofs.chain_at.Goals as goal
 
 pub returns : goal.returns

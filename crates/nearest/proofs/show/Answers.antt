@@ -1,24 +1,28 @@
--- `nearest::show` meets its contract: the cast is exact (`cast` of `proofs/Exact`). Assumes nothing.
+-- `nearest::show` meets its contract: the cast is exact (`cast` of `proofs/Exact`).
 use Prim.Native.Nat.{ℕ, ◌+◌, ◌-◌, ◌≤◌}
 use mathlib.Core.Path.{◌≡◌, sym, ap, ◌∙◌, subst}
-use mathlib.Core.Bool.{Bool, cond}
+use mathlib.Core.List.{[], ◌∷◌}
 use native.Mathlib.Omega.{arith}
-use borrow.Author.Tests.{eq-eqb, ne_eqb}
-use Rattle.nearest.specs.Stages.{in_squares}
+use Rattle.std.specs.Prelude.{Option, Some, IfSome}
+use Rattle.nearest.specs.declared.Candidate.{Candidate}
+use Rattle.nearest.specs.Stages.{in_squares, OnSquares, corner_shown, distance_shown}
 use Rattle.nearest.proofs.Exact.{cast}
 use Rattle.nearest.proofs.show.Goals as goal
 
-pub returns-then-corner-eq4294967295 : goal.returns-then-corner-eq4294967295
-returns-then-corner-eq4294967295 c = sym (ap (λ (t : Bool). cond t 0 (in_squares c.args.d)) (eq-eqb c.args.corner 4294967295 c.if-corner-eq4294967295.true))
+on-squares : {best : Option Candidate} {c : Candidate} → IfSome best (λ (c : Candidate). OnSquares c.distance) → best ≡ Some c → OnSquares c.distance
+on-squares h e = subst (λ (b : Option Candidate). IfSome b (λ (c : Candidate). OnSquares c.distance)) e h
 
 pub float_to_int-result : goal.float_to_int-result
-float_to_int-result c = (cast c.args.d c.requires).0
+float_to_int-result c = (cast c.in-Some.c.distance (on-squares c.requires c.in-Some.is)).0
 
 pub overflow_sub-result : goal.overflow_sub-result
-overflow_sub-result c = subst (λ (n : ℕ). 1 ≤ n) (sym (cast c.args.d c.requires).1) (omega arith)
+overflow_sub-result c = subst (λ (n : ℕ). 1 ≤ n) (sym (cast c.in-Some.c.distance (on-squares c.requires c.in-Some.is)).1) (omega arith)
 
-pub returns : goal.returns
-returns c =
-    let n = in_squares c.args.d in
+pub returns-in-Some : goal.returns-in-Some
+returns-in-Some c =
+    let v = c.in-Some.c.corner in
+    let n = in_squares c.in-Some.c.distance in
     let e : n + 1 - 1 ≡ n = omega arith in
-    ap (λ (m : ℕ). m - 1) (cast c.args.d c.requires).1 ∙ e ∙ sym (ap (λ (t : Bool). cond t 0 n) (ne_eqb c.args.corner 4294967295 c.if-corner-eq4294967295.false))
+    ap (λ (m : ℕ). v ∷ (m - 1) ∷ []) (cast c.in-Some.c.distance (on-squares c.requires c.in-Some.is)).1
+    ∙ ap (λ (m : ℕ). v ∷ m ∷ []) e
+    ∙ sym (ap (λ (b : Option Candidate). corner_shown b ∷ distance_shown b ∷ []) c.in-Some.is)

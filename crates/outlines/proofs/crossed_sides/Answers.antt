@@ -1,8 +1,5 @@
 -- `outlines::crossed_sides` meets its contract.
-use Prim.Native.Nat.{ℕ}
-use mathlib.Core.List.{List}
 use Rattle.outlines.proofs.Preparing.{arranged, prepared}
-use borrow.Author.Rules.{rules}
 use Rattle.outlines.proofs.crossed_sides.Goals as goal
 
 pub count_sides-requires : goal.count_sides-requires

@@ -1,6 +1,5 @@
 -- `outlines::up_place` meets its contract.
 use Rattle.outlines.proofs.Reading.{up_first, up_second}
-use borrow.Author.Rules.{rules}
 use Rattle.outlines.proofs.up_place.Goals as goal
 
 pub returns-then-x-y : goal.returns-then-x-y

@@ -1,21 +1,25 @@
--- `printing::hexadecimal` meets its contract. The loop's invariant: the first `i` digits are written. Assumes nothing.
-use mathlib.Core.Path.{refl, ◌∙◌}
-use native.Mathlib.Omega.{arith}
+-- `printing::hexadecimal` meets its contract.
+use Rattle.std.proofs.Common.{arith, refl, ◌∙◌}
 use Rattle.writing.proofs.Puts.{reach}
 use Rattle.printing.proofs.Digits.{row-start, row_more, row_end}
 use Rattle.printing.proofs.hexadecimal.Goals as goal
 
-pub loop-i-init : goal.loop-i-init
-loop-i-init c = (refl, row-start _ _ _)
+pub loop-k-init : goal.loop-k-init
+loop-k-init c = record { same = refl; row = row-start _ _ _ }
 
-pub put-next-requires : goal.put-next-requires
-put-next-requires c =
-    let r = reach c.loop-i.invariant.1.put in
+pub digit-requires : goal.digit-requires
+digit-requires c = omega (arith, c.loop-k.invariant.row.few)
+
+pub put-requires : goal.put-requires
+put-requires c =
+    let r = reach c.loop-k.invariant.row.put in
     omega arith
 
-pub loop-i-preserved : goal.loop-i-preserved
-loop-i-preserved c =
-    (c.put-next.auto.written ∙ c.loop-i.invariant.0, row_more _ (omega arith) refl c.digit.ensures c.loop-i.invariant.1 c.put-next.ensures)
+pub loop-k-preserved : goal.loop-k-preserved
+loop-k-preserved c = record {
+  same = c.put.ensures.same ∙ c.loop-k.invariant.same;
+  row = row_more (omega arith) c.digit.ensures c.loop-k.invariant.row c.put.ensures.put;
+}
 
 pub returns : goal.returns
-returns c = row_end _ (omega arith) c.loop-i.invariant.1
+returns c = record { same = c.loop-k.invariant.same; put = row_end _ (omega arith) c.loop-k.invariant.row }

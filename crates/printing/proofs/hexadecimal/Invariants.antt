@@ -1,12 +1,10 @@
--- `printing::hexadecimal` meets its contract. The loop's invariant: the first `i` digits are written. Assumes nothing.
+-- `printing::hexadecimal` meets its contract. The loop's invariant: the last `k` digits are left to be written.
 use mathlib.Core.Path.{◌≡◌}
-use Prim.Native.Nat.{◌-◌}
-use lib.ListN.{length}
 use Rattle.printing.proofs.Digits.{Row}
 use Rattle.printing.proofs.hexadecimal.Given as goal
 
-abbrev pub invariant-loop-i : goal.invariant-loop-i
-invariant-loop-i l = (length l.printed ≡ length l.initial.printed) × Row l.v l.i l.initial.printed l.printed l.at l.next
-
-abbrev pub decreases-loop-i : goal.decreases-loop-i
-decreases-loop-i l = 16 - l.i
+abbrev pub invariant-loop-k : goal.invariant-loop-k
+invariant-loop-k l = record {
+  same : l.writer.written.ghost_name ≡ l.initial.writer.written.ghost_name;
+  row : Row l.v l.k l.initial.writer.written.now l.writer.written.now l.initial.writer.at l.writer.at;
+}

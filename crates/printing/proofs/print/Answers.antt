@@ -7,12 +7,12 @@ use Rattle.printing.proofs.print.Goals as goal
 
 pub lines-requires : goal.lines-requires
 lines-requires c =
-    subst Values (sym c.verdict.ensures ∙ c.in-Accepted.is) (text-values (contents c.args.text.now))
+    subst Values (sym c.verdict.ensures ∙ c.in-Ok.is) (text-values (contents c.args.text.now))
 
-pub returns-in-Accepted : goal.returns-in-Accepted
-returns-in-Accepted c =
-    prints _ _ _ _ _ c.clear.ensures (sym c.in-Accepted.is ∙ c.verdict.ensures) c.lines.ensures
+pub returns-in-Ok : goal.returns-in-Ok
+returns-in-Ok c =
+    prints _ _ _ _ _ (c.fill.ensures.after (λ y e. e)) (sym c.in-Ok.is ∙ c.verdict.ensures) c.lines.ensures
 
-pub returns-in-Refused : goal.returns-in-Refused
-returns-in-Refused c =
-    prints_refused _ _ _ _ _ c.clear.ensures (sym c.in-Refused.is ∙ c.verdict.ensures) c.number.ensures c.lines-in-Refused.ensures
+pub returns-in-Err : goal.returns-in-Err
+returns-in-Err c =
+    prints_refused _ _ _ _ _ (c.fill.ensures.after (λ y e. e)) (sym c.in-Err.is ∙ c.verdict.ensures) c.number.ensures c.lines-in-Err.ensures

@@ -3,7 +3,6 @@ use Prim.Native.Nat.{◌*◌}
 use mathlib.Core.Path.{◌∙◌}
 use native.Mathlib.Omega.{arith}
 use lib.ListN.{drop}
-use borrow.Author.Rules.{rules}
 use Rattle.closing.proofs.Whole.{zero-at, far_clear}
 use Rattle.questions.proofs.labels_agree.Goals as goal
 

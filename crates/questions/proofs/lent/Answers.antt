@@ -1,36 +1,26 @@
 -- `questions::lent` meets its contract: after 4 the needed words are cleared, and only then.
-use Prim.Native.Nat.{ℕ}
-use mathlib.Core.Path.{refl, sym, ap, ◌∙◌}
-use mathlib.Core.Bool.{◌&&◌}
-use lib.Dec.{leb}
+use mathlib.Core.Path.{refl, sym, ◌∙◌}
 use borrow.Author.Rules.{rules}
-use Rattle.questions.specs.Questions.{work_after}
-use Rattle.questions.proofs.Counted.{Counted, lent-four, words_early, words_late}
+use Rattle.questions.proofs.Telling.{handed_on}
+use Rattle.questions.proofs.Counted.{lent-four, words_late, three-refused, four-asked}
 use Rattle.questions.proofs.lent.Goals as goal
 
--- where only question 4 was answered by "no", the lists are counted
-counted : (c : goal.After-clear_needed-arg-1) → Counted c.args.points.now c.args.corners.now c.args.labels.now c.args.work.now
-counted c = lent-four _ _ _ _ (sym c.first_four.ensures ∙ c.in-Refused.is) (sym c.number.ensures ∙ c.if-number-eq4.true)
-
-pub returns-in_default : goal.returns-in_default
-returns-in_default c = record { answer = sym c.in_default.is ∙ c.first_four.ensures; words = refl }
+pub returns-in_err-first_three : goal.returns-in_err-first_three
+returns-in_err-first_three c = rw (handed_on c.from_residual.result c.from_residual.ensures.1) (three-refused c.first_three.ensures c.in_err-first_three.was)
 
 pub clear_needed-requires : goal.clear_needed-requires
-clear_needed-requires c = let g = counted c in search rules
+clear_needed-requires c =
+    let g = lent-four _ _ _ _ (four-asked c.first_three.ensures c.in_ok-first_three.was (sym c.all_finite.ensures ∙ c.if-not-all_finite.true)) refl in
+    search rules
 
-pub returns-then-number-eq4 : goal.returns-then-number-eq4
-returns-then-number-eq4 c =
-    let ps = c.args.points.now in
-    let cs = c.args.corners.now in
-    record {
-      answer = sym c.in-Refused.is ∙ c.first_four.ensures;
-      words =
-          c.clear_needed.ensures
-          ∙ words_late ps cs c.args.work.now c.number.result (ap (λ (k : ℕ). leb 1 k && leb k 3) c.if-number-eq4.true)
-          ∙ ap (λ (k : ℕ). work_after k ps cs c.args.work.now) c.number.ensures;
-    }
+pub returns-then-not-all_finite : goal.returns-then-not-all_finite
+returns-then-not-all_finite c = record {
+  answer = sym (four-asked c.first_three.ensures c.in_ok-first_three.was (sym c.all_finite.ensures ∙ c.if-not-all_finite.true));
+  words = c.clear_needed.ensures ∙ words_late c.args.mesh.now.points.now c.args.mesh.now.corners.now c.args.work.now 4 refl;
+}
 
 pub returns : goal.returns
-returns c =
-    let e = sym c.first_four.ensures ∙ c.in-Refused.is in
-    record { answer = sym e; words = words_early _ _ _ _ e (λ four. c.if-number-eq4.false (c.number.ensures ∙ four)) }
+returns c = record {
+  answer = sym (four-asked c.first_three.ensures c.in_ok-first_three.was (sym c.all_finite.ensures ∙ c.if-not-all_finite.false));
+  words = refl;
+}

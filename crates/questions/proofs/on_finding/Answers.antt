@@ -1,6 +1,5 @@
 -- `questions::on_finding` meets its contract, case by case.
 use mathlib.Core.Path.{sym, ap}
-use borrow.Author.Rules.{rules}
 use Rattle.questions.specs.Refusal.{on_finding}
 use Rattle.questions.proofs.on_finding.Goals as goal
 

@@ -2,7 +2,6 @@
 use native.Mathlib.Omega.{arith}
 use lib.ListN.{length-set}
 use Rattle.renumber.proofs.Numbering.{loaded-is}
-use borrow.Author.Rules.{rules}
 use Rattle.renumber.proofs.load_point.Goals as goal
 
 pub bounds-points-q-2 : goal.bounds-points-q-2

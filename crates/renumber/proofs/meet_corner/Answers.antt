@@ -4,7 +4,6 @@ use mathlib.Core.Path.{refl}
 use native.Mathlib.Omega.{arith}
 use Rattle.renumber.specs.Numbered.{old}
 use Rattle.renumber.proofs.Numbering.{note_of, fresh_at, met-new}
-use borrow.Author.Rules.{rules}
 use Rattle.renumber.proofs.meet_corner.Goals as goal
 
 pub overflow_cast-corners : goal.overflow_cast-corners

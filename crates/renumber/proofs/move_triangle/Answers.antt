@@ -3,7 +3,6 @@ use mathlib.Core.Path.{refl}
 use native.Mathlib.Omega.{arith}
 use lib.ListN.{length-set}
 use Rattle.renumber.proofs.Dropping.{moved-is}
-use borrow.Author.Rules.{rules}
 use Rattle.renumber.proofs.move_triangle.Goals as goal
 
 pub bounds-corners-q-2 : goal.bounds-corners-q-2

@@ -1,8 +1,5 @@
 -- `renumber::number_corners` meets its contract. Assumes nothing.
-use Prim.Native.Nat.{◌-◌}
-use native.Mathlib.Omega.{arith}
-use lib.ListN.{length}
-use Rattle.renumber.proofs.Numbering.{Numbering, number_starts, meetable, number_turn, number-ends}
+use Rattle.renumber.proofs.Numbering.{number_starts, meetable, number_turn, number-ends}
 use Rattle.renumber.proofs.number_corners.Goals as goal
 
 pub loop-k-init : goal.loop-k-init

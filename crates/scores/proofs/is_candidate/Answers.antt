@@ -1,7 +1,6 @@
 -- `scores::is_candidate` meets its contract: each way out is a case of `picks`. Assumes nothing.
 use native.Mathlib.Omega.{arith}
 use Rattle.scores.proofs.Turns.{pick-long, pick_first, pick_second, twin-room}
-use borrow.Author.Rules.{rules}
 use Rattle.scores.proofs.is_candidate.Goals as goal
 
 pub returns-then-work-marks-eq1 : goal.returns-then-work-marks-eq1

@@ -1,7 +1,5 @@
 -- `scores::measure_sides` meets its contract. Assumes nothing.
-use native.Mathlib.Omega.{arith}
-use Prim.Native.Nat.{◌-◌}
-use Rattle.scores.proofs.Turns.{Measuring, measure_starts, measure_place, measure_turned, measure_ends}
+use Rattle.scores.proofs.Turns.{measure_starts, measure_place, measure_turned, measure_ends}
 use Rattle.scores.proofs.measure_sides.Goals as goal
 
 pub loop-i-init : goal.loop-i-init

@@ -1,10 +1,11 @@
 -- `scores::pick_candidates` meets its contract. Assumes nothing.
 use native.Mathlib.Omega.{arith}
-use Prim.Native.Nat.{ℕ, ◌+◌, ◌-◌}
+use Prim.Native.Nat.{ℕ, ◌+◌}
 use mathlib.Core.Path.{◌∙◌}
 use Rattle.halfedges.specs.Place.{at}
 use Rattle.scores.specs.Measures.{picks}
-use Rattle.scores.proofs.Turns.{Picking, pick_starts, pick-place, pick_turn, pick_ends, picks-same, marked_in, byte_small}
+use Rattle.chains.proofs.Bits.{bit_most}
+use Rattle.scores.proofs.Turns.{pick_starts, pick-place, pick_turned, pick_ends, picks-same, marked_in}
 use Rattle.scores.proofs.pick_candidates.Goals as goal
 
 pub loop-i-init : goal.loop-i-init
@@ -18,13 +19,12 @@ is_candidate-yes-requires c =
 
 pub overflow_add-n : goal.overflow_add-n
 overflow_add-n c =
-    let b = byte_small c.is_candidate-yes.result in
-    omega arith
+    omega (arith, bit_most c.is_candidate-yes.result _ c.from-n.ensures)
 
 pub loop-i-preserved : goal.loop-i-preserved
 loop-i-preserved c =
     let p = pick-place c.args.points.now c.args.corners.now c.args.work.now c.loop-i.work (λ (k : ℕ). picks c.args.points.now c.args.corners.now c.args.twins c.args.marks c.args.limit c.args.work.now (at c.args.work.now (c.args.sides + k))) c.args.sides c.args.count c.args.items c.loop-i.n c.loop-i.i c.requires.measurable c.loop-i.invariant c.loop-i-test.true _ c.wide-k.ensures in
-    pick_turn (λ (k : ℕ). picks c.args.points.now c.args.corners.now c.args.twins c.args.marks c.args.limit c.args.work.now (at c.args.work.now (c.args.sides + k))) c.args.work.now c.loop-i.work c.args.count c.args.items c.loop-i.n c.loop-i.i c.requires.measurable.room c.loop-i.invariant c.loop-i-test.true c.is_candidate-yes.result
+    pick_turned (λ (k : ℕ). picks c.args.points.now c.args.corners.now c.args.twins c.args.marks c.args.limit c.args.work.now (at c.args.work.now (c.args.sides + k))) c.args.work.now c.loop-i.work c.args.count c.args.items c.loop-i.n c.loop-i.i c.requires.measurable.room c.loop-i.invariant c.loop-i-test.true c.is_candidate-yes.result _ c.from-n.ensures
     (c.is_candidate-yes.ensures ∙ picks-same c.args.points.now c.args.corners.now c.args.work.now c.loop-i.work c.args.twins c.args.marks c.args.items c.args.limit _ _ c.requires.measurable.pointed.thirds c.requires.marked c.loop-i.invariant.under p.0 (c.requires.measurable.places c.loop-i.i c.loop-i-test.true))
 
 pub returns : goal.returns

@@ -1,6 +1,5 @@
 -- `scores::score` meets its contract, by those of the functions that it calls. Assumes nothing.
 use Rattle.scores.proofs.Turns.{scored}
-use borrow.Author.Rules.{rules}
 use Rattle.scores.proofs.score.Goals as goal
 
 pub returns : goal.returns

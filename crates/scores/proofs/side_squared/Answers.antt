@@ -1,6 +1,5 @@
 -- `scores::side_squared` meets its contract: the corners of a place and of the next one have points. Assumes nothing.
 use Rattle.scores.proofs.Turns.{end_points, side-squared-is}
-use borrow.Author.Rules.{rules}
 use Rattle.scores.proofs.side_squared.Goals as goal
 
 pub squared-requires : goal.squared-requires

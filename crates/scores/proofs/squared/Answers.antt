@@ -1,6 +1,5 @@
 -- `scores::squared` meets its contract, by those of the functions that it calls. Assumes nothing.
 use Rattle.scores.proofs.Turns.{squared-is}
-use borrow.Author.Rules.{rules}
 use Rattle.scores.proofs.squared.Goals as goal
 
 pub returns : goal.returns

@@ -6,6 +6,7 @@ use Prim.Native.Nat.{ℕ, ◌+◌, ◌*◌, ◌<◌}
 use native.Mathlib.Omega.{arith}
 use lib.ListN.{length, drop, length-append}
 use Rattle.sheet.specs.Sheet.{Near, point_line, coordinates_of}
+use Rattle.sheet.specs.Edition.{rules_of}
 use Rattle.sheet.specs.Stages.{stored_point}
 use Rattle.sheet.proofs.Decimal.{every_append}
 use Rattle.sheet.proofs.Lines.{point_unique, lines_more, lines_next}
@@ -16,27 +17,27 @@ pub loop-k-init : goal.loop-k-init
 loop-k-init c = ([], refl, omega arith, refl, tt, refl, refl)
 
 pub point-requires : goal.point-requires
-point-requires c = (omega arith, omega arith)
+point-requires c = omega arith
 
-pub returns-in_default : goal.returns-in_default
-returns-in_default c =
-    let w = c.in_default.ensures in
-    λ qs hl he r q.
+pub returns-in_err-next : goal.returns-in_err-next
+returns-in_err-next c =
+    let w = c.in_err-next.ensures in
+    rw c.from_residual.ensures (λ qs hl he r q.
     let fewer : length c.loop-k.invariant.0 < length qs = omega (arith, c.loop-k.invariant.1, hl) in
-    let z = lines_next point_line point_unique (Near c.args.most) c.loop-k.invariant.0 qs (drop c.loop-k.next c.args.text.now) r fewer he (sym c.loop-k.invariant.5 ∙ q) in
-    w z.0 z.1 z.2 z.3
+    let z = lines_next point_line point_unique (Near (rules_of c.args.edition).most) c.loop-k.invariant.0 qs (drop c.loop-k.next c.args.text.now) r fewer he (sym c.loop-k.invariant.5 ∙ q) in
+    w z.0 z.1 z.2 z.3)
 
 pub loop-k-preserved : goal.loop-k-preserved
 loop-k-preserved c =
-    let w = c.in-At.ensures in
+    let w = c.in_ok-next.ensures in
     let p = w.0 in
     let ps = c.loop-k.invariant.0 in (
       ps ++ (p ∷ []),
       length-append ps (p ∷ []) ∙ ap (λ (n : ℕ). n + 1) c.loop-k.invariant.1,
       omega arith,
       c.point.auto.coordinates ∙ c.loop-k.invariant.3,
-      every_append (Near c.args.most) ps (p ∷ []) c.loop-k.invariant.4 (w.1, tt),
-      lines_more point_line c.args.text.now c.args.at ps p c.loop-k.next c.in-At.n c.loop-k.invariant.5 w.2,
+      every_append (Near (rules_of c.args.edition).most) ps (p ∷ []) c.loop-k.invariant.4 (w.1, tt),
+      lines_more point_line c.args.text.now c.args.at ps p c.loop-k.next c.in_ok-next.next c.loop-k.invariant.5 w.2,
       w.3 ∙ ap (stored_point c.loop-k.k p) c.loop-k.invariant.6 ∙ coordinates_more ps p c.args.coordinates.now c.loop-k.k c.loop-k.invariant.1 (omega arith),
     )
 

@@ -2,10 +2,11 @@
 -- Assumes nothing.
 use mathlib.Core.Path.{◌≡◌}
 use mathlib.Core.List.{List, ◌++◌}
-use Prim.Native.Nat.{◌-◌, ◌*◌, ◌≤◌}
+use Prim.Native.Nat.{◌*◌, ◌≤◌}
 use lib.ListN.{length, drop}
 use Rattle.sheet.specs.Text.{lines}
 use Rattle.sheet.specs.Sheet.{Point, Every, Near, point_line, coordinates_of}
+use Rattle.sheet.specs.Edition.{rules_of}
 use Rattle.sheet.specs.Stages.{Stands}
 use Rattle.sheet.proofs.all_points.Given as goal
 
@@ -13,8 +14,5 @@ use Rattle.sheet.proofs.all_points.Given as goal
 -- Assumes nothing.
 abbrev pub invariant-loop-k : goal.invariant-loop-k
 invariant-loop-k l =
-    (ps : List Point) × (length ps ≡ l.k) × (l.k ≤ l.count) × (length l.coordinates ≡ length l.initial.coordinates) × Every (Near l.most) ps
+    (ps : List Point) × (length ps ≡ l.k) × (l.k ≤ l.count) × (length l.coordinates ≡ length l.initial.coordinates) × Every (Near (rules_of l.edition).most) ps
     × Stands l.text l.at (lines point_line ps) l.next × (l.coordinates ≡ coordinates_of ps ++ drop (l.k * 3) l.initial.coordinates)
-
-abbrev pub decreases-loop-k : goal.decreases-loop-k
-decreases-loop-k l = l.count - l.k

@@ -18,17 +18,17 @@ loop-k-init c = ([], refl, omega arith, refl, refl, tt, refl, refl, refl)
 pub triangle-requires : goal.triangle-requires
 triangle-requires c = (omega arith, omega arith)
 
-pub returns-in_default : goal.returns-in_default
-returns-in_default c =
-    let w = c.in_default.ensures in
-    λ qs hl he r q.
+pub returns-in_err-next : goal.returns-in_err-next
+returns-in_err-next c =
+    let w = c.in_err-next.ensures in
+    rw c.from_residual.ensures (λ qs hl he r q.
     let fewer : length c.loop-k.invariant.0 < length qs = omega (arith, c.loop-k.invariant.1, hl) in
     let z = lines_next triangle_line triangle_unique Small c.loop-k.invariant.0 qs (drop c.loop-k.next c.args.text.now) r fewer he (sym c.loop-k.invariant.6 ∙ q) in
-    w z.0 z.1 z.2 z.3
+    w z.0 z.1 z.2 z.3)
 
 pub loop-k-preserved : goal.loop-k-preserved
 loop-k-preserved c =
-    let w = c.in-At.ensures in
+    let w = c.in_ok-next.ensures in
     let t = w.0 in
     let ts = c.loop-k.invariant.0 in (
       ts ++ (t ∷ []),
@@ -37,7 +37,7 @@ loop-k-preserved c =
       c.triangle.auto.corners ∙ c.loop-k.invariant.3,
       c.triangle.auto.labels ∙ c.loop-k.invariant.4,
       every_append Small ts (t ∷ []) c.loop-k.invariant.5 (w.1, tt),
-      lines_more triangle_line c.args.text.now c.args.at ts t c.loop-k.next c.in-At.n c.loop-k.invariant.6 w.2,
+      lines_more triangle_line c.args.text.now c.args.at ts t c.loop-k.next c.in_ok-next.next c.loop-k.invariant.6 w.2,
       w.3 ∙ ap (stored_corners c.loop-k.k t) c.loop-k.invariant.7 ∙ corners-more ts t c.args.corners.now c.loop-k.k c.loop-k.invariant.1 (omega arith),
       w.4 ∙ ap (λ (l : List ℕ). set l c.loop-k.k t.label) c.loop-k.invariant.8 ∙ labels-more ts t c.args.labels.now c.loop-k.k c.loop-k.invariant.1 (omega arith),
     )

@@ -1,23 +1,19 @@
 -- `sheet::point` meets its contract: its parts are put together by `Points`. Assumes nothing.
-use Rattle.sheet.proofs.Points.{no_first, no_second, no_third, all_three}
+use Rattle.sheet.specs.Edition.{rules_of}
+use Rattle.sheet.proofs.Points.{no_first, no_second, third}
 use Rattle.sheet.proofs.point.Goals as goal
 
-pub returns-in_default : goal.returns-in_default
-returns-in_default c =
+pub returns-in_err-i : goal.returns-in_err-i
+returns-in_err-i c =
     let S = c.args in
-    no_first S.text.now S.at S.most S.k S.coordinates.now c.coordinate.new.coordinates c.in_default.ensures
+    rw c.from_residual.ensures (no_first S.text.now S.at (rules_of S.edition).most S.k S.coordinates.now c.coordinate.new.coordinates c.in_err-i.ensures)
 
-pub returns-in_default-coordinate : goal.returns-in_default-coordinate
-returns-in_default-coordinate c =
+pub returns-in_err-j : goal.returns-in_err-j
+returns-in_err-j c =
     let S = c.args in
-    no_second S.text.now S.at S.most S.k S.coordinates.now c.coordinate.new.coordinates c.in-At.i c.in-At.ensures c.coordinate-2.new.coordinates c.in_default-coordinate.ensures
-
-pub returns-in_default-coordinate-2 : goal.returns-in_default-coordinate-2
-returns-in_default-coordinate-2 c =
-    let S = c.args in
-    no_third S.text.now S.at S.most S.k S.coordinates.now c.coordinate.new.coordinates c.in-At.i c.in-At.ensures c.coordinate-2.new.coordinates c.in-At-coordinate.j c.in-At-coordinate.ensures c.coordinate-3.new.coordinates c.in_default-coordinate-2.ensures
+    rw c.from_residual-in_err-j.ensures (no_second S.text.now S.at (rules_of S.edition).most S.k S.coordinates.now c.coordinate.new.coordinates c.in_ok-i.i c.in_ok-i.ensures c.coordinate-2.new.coordinates c.in_err-j.ensures)
 
 pub returns : goal.returns
 returns c =
     let S = c.args in
-    all_three S.text.now S.at S.most S.k S.coordinates.now c.coordinate.new.coordinates c.in-At.i c.in-At.ensures c.coordinate-2.new.coordinates c.in-At-coordinate.j c.in-At-coordinate.ensures c.coordinate-3.new.coordinates c.in-At-coordinate-2.next c.in-At-coordinate-2.ensures
+    third S.text.now S.at (rules_of S.edition).most S.k S.coordinates.now c.coordinate.new.coordinates c.in_ok-i.i c.in_ok-i.ensures c.coordinate-2.new.coordinates c.in_ok-j.j c.in_ok-j.ensures c.coordinate-3.new.coordinates c.coordinate-3.result c.coordinate-3.ensures

@@ -1,12 +1,14 @@
 -- `sheet::told` meets its contract. Assumes nothing.
-use Rattle.sheet.proofs.Editions.{told_none, told-second, told-first}
+use Rattle.std.proofs.Common.{rules, ◌≡◌, get_or}
+use Rattle.sheet.proofs.Editions.{told-second, told-first}
 use Rattle.sheet.proofs.told.Goals as goal
 
-pub returns-then-text-eq0 : goal.returns-then-text-eq0
-returns-then-text-eq0 c = told_none c.args.text.now c.if-text-eq0.true
-
-pub returns-then-text-eq101 : goal.returns-then-text-eq101
-returns-then-text-eq101 c = told-second c.args.text.now c.if-text-eq101.true
+pub returns-then-eq : goal.returns-then-eq
+returns-then-eq c =
+    let e : get_or c.args.text.now 0 0 ≡ 101 = search rules in
+    told-second c.args.text.now e
 
 pub returns : goal.returns
-returns c = told-first c.args.text.now c.if-text-eq101.false
+returns c =
+    let n : get_or c.args.text.now 0 0 ≡ 101 → ⊥ = search rules in
+    told-first c.args.text.now n

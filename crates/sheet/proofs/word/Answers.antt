@@ -1,24 +1,13 @@
--- `sheet::word` meets its contract. The loop's invariant: the first `k` bytes of the word stand at `at`, up to `i`. Assumes nothing.
-use mathlib.Core.Path.{refl}
-use native.Mathlib.Omega.{arith}
-use Rattle.sheet.proofs.Words.{cut, other, step, whole}
+-- `sheet::word` meets its contract. The loop's invariant: the first `b-index` bytes of the word stand at `at`, up to `i`. Assumes nothing.
+use Rattle.std.proofs.Common.{rules, arith, ◌≡◌, ◌<◌, length, get_or}
+use Rattle.sheet.proofs.Words.{step, whole}
 use Rattle.sheet.proofs.word.Goals as goal
 
-pub loop-k-init : goal.loop-k-init
-loop-k-init c = refl
-
-pub returns-then-i-text : goal.returns-then-i-text
-returns-then-i-text c =
-    cut c.args.text.now c.args.at c.args.w.now c.loop-k.k c.loop-k.i c.loop-k.invariant (omega arith) (omega arith)
-
-pub returns-then-text-i : goal.returns-then-text-i
-returns-then-text-i c =
-    other c.args.text.now c.args.at c.args.w.now c.loop-k.k c.loop-k.i c.loop-k.invariant (omega arith) (omega arith) c.if-text-i.true
-
-pub loop-k-preserved : goal.loop-k-preserved
-loop-k-preserved c =
-    step c.args.text.now c.args.at c.args.w.now c.loop-k.k c.loop-k.i c.loop-k.invariant (omega arith) (omega arith) c.if-text-i.false
+pub loop-b-preserved : goal.loop-b-preserved
+loop-b-preserved c =
+    let here : c.loop-b.i < length c.args.text.now = search rules in
+    let same : get_or c.args.text.now c.loop-b.i 0 ≡ get_or c.args.w.now c.loop-b.b-index 0 = search rules in
+    step c.args.text.now c.args.at c.args.w.now c.loop-b.b-index c.loop-b.i c.loop-b.invariant (omega arith) here same
 
 pub returns : goal.returns
-returns c =
-    whole c.args.text.now c.args.at c.args.w.now c.loop-k.k c.loop-k.i c.loop-k.invariant (omega arith)
+returns c = whole c.args.text.now c.args.at c.args.w.now c.loop-b.b-index c.loop-b.i c.loop-b.invariant (omega arith)

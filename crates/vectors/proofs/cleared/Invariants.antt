@@ -1,12 +1,7 @@
 -- `vectors::cleared` meets its contract. The loop's invariant: the first `i` are as they must be. Assumes nothing.
-use Prim.Native.Nat.{◌-◌}
-use lib.ListN.{length}
 use Rattle.vectors.specs.Words.{left_at}
 use Rattle.vectors.proofs.Lists.{Agrees}
 use Rattle.vectors.proofs.cleared.Given as goal
 
 abbrev pub invariant-loop-i : goal.invariant-loop-i
 invariant-loop-i l = Agrees (left_at l.n) 1 0 l.i l.list
-
-abbrev pub decreases-loop-i : goal.decreases-loop-i
-decreases-loop-i l = length l.list - l.i

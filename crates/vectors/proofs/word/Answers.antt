@@ -1,15 +1,11 @@
 -- `vectors::word` meets its contract. The loop's invariant: the value is what the first `i` digits spell. Assumes nothing.
 use Prim.Native.Nat.{◌*◌}
-use mathlib.Core.Path.{refl}
 use native.Mathlib.Omega.{arith}
 use Rattle.vectors.proofs.Digits.{more, room, spelled-more, no_word, some_word}
 use Rattle.vectors.proofs.word.Goals as goal
 
-pub returns-then-k-text : goal.returns-then-k-text
-returns-then-k-text c = no_word _ _ c.if-k-text.true
-
-pub loop-i-init : goal.loop-i-init
-loop-i-init c = (omega arith, omega arith, refl)
+pub returns-then-k-count : goal.returns-then-k-count
+returns-then-k-count c = no_word _ _ (omega (arith, c.if-k-count.true, c.count.ensures))
 
 pub overflow_mul-value : goal.overflow_mul-value
 overflow_mul-value c = omega (arith, room c.loop-i.i c.loop-i.value c.loop-i.invariant.1 c.loop-i-test.true)
@@ -23,4 +19,4 @@ loop-i-preserved c =
 
 pub returns : goal.returns
 returns c =
-    some_word _ _ c.loop-i.value c.loop-i.i c.if-k-text.false c.loop-i.invariant.2 (omega arith)
+    some_word _ _ c.loop-i.value c.loop-i.i (omega (arith, c.if-k-count.false, c.count.ensures)) c.loop-i.invariant.2 (omega arith)

@@ -1,9 +1,9 @@
--- `writing::text` meets its contract. Assumes nothing.
-use native.Mathlib.Omega.{arith}
-use Rattle.sheet.specs.Edition.{edition}
+-- `writing::text` meets its contract.
+use Rattle.std.proofs.Common.{arith, rules}
+use Rattle.sheet.specs.Edition.{rules_of}
 use Rattle.writing.proofs.Parts.{sheet-put}
 use Rattle.writing.proofs.text.Goals as goal
 
 pub returns : goal.returns
 returns c =
-    sheet-put (edition c.args.number).opening c.args.n c.args.m c.args.coordinates.now c.args.corners.now c.args.labels.now (omega arith) (omega arith) c.head-i.ensures c.all_points-j.ensures c.word-k.ensures c.all_triangles.ensures
+    search (rules, sheet-put (rules_of c.args.edition).opening c.args.n c.args.m c.args.coordinates.now c.args.corners.now c.args.labels.now (omega arith) (omega arith) c.head.ensures.put c.all_points.ensures.put c.word.ensures.put c.all_triangles.ensures.put)

@@ -13,7 +13,3 @@ returns-in-Second c = cc
 pub returns-in-At : goal.returns-in-At
 unfolding cut_point
 returns-in-At c = cc
-
-pub returns-in-NotFinite : goal.returns-in-NotFinite
-unfolding cut_point
-returns-in-NotFinite c = cc

@@ -1,8 +1,0 @@
-use Rattle.entries.proofs.Moved.{Sinking}
-use Rattle.entries.proofs.shift_labels_back.Given as goal
-
-abbrev pub invariant-loop-i : goal.invariant-loop-i
-invariant-loop-i l = Sinking 1 l.i l.initial.part l.part
-
-abbrev pub decreases-loop-i : goal.decreases-loop-i
-decreases-loop-i l = l.i

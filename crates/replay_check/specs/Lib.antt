@@ -1,2 +1,0 @@
--- `Replay`: where the next vector begins.
-pub mod Replay

@@ -1,2 +1,0 @@
--- `Onward`: a vector that begins later ends later.
-pub mod Onward

@@ -1,7 +1,0 @@
--- `solve::residual` meets its contract. Assumes nothing.
-use Rattle.solve.specs.Solve.{residual}
-use Rattle.solve.proofs.residual.Goals as goal
-
-pub returns : goal.returns
-unfolding residual
-returns c = cc

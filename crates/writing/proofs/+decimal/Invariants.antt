@@ -1,5 +1,0 @@
--- The measure is the number itself.
-use Rattle.writing.proofs.+decimal.Given as goal
-
-abbrev pub decreases-decimal : goal.decreases-decimal
-decreases-decimal l = l.v
