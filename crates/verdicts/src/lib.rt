@@ -37,7 +37,7 @@ fn runs_to(t: [u32; 3], u: u32, v: u32) -> bool
 fn names_in(t: [u32; 3], v: u32) -> bool
     ensures { result ≡ names (tri_of t) v }
 {
-    t.contains(&v)
+    t[0] == v || t[1] == v || t[2] == v
 }
 
 // The triangle has the side of a and b, in one direction or the other. Most triangles do not name a.
@@ -288,8 +288,9 @@ impl Triangles<'_> {
         requires { (3 * self.now.count ≤ length self.now.corners.now) × (from ≤ self.now.count) }
         ensures { FirstOn (held self.now.corners.now self.now.count) self.now.count from a b result }
     {
-        for i in from..self.count {
-            if has_side(triangle_at(self.corners, i), a, b) {
+        let Triangles { corners, count } = *self;
+        for i in from..count {
+            if has_side(triangle_at(corners, i), a, b) {
                 return Some(i);
             }
         }
@@ -339,9 +340,10 @@ impl Triangles<'_> {
         requires { 3 * self.now.count ≤ length self.now.corners.now }
         ensures { result ≡ eqb (length (around (held self.now.corners.now self.now.count) v)) 3 }
     {
+        let Triangles { corners, count } = *self;
         let mut s: usize = 0;
-        for i in 0..self.count {
-            s += named_in(triangle_at(self.corners, i), v);
+        for i in 0..count {
+            s += named_in(triangle_at(corners, i), v);
             if s > 3 {
                 return false;
             }
@@ -355,8 +357,9 @@ impl Triangles<'_> {
         requires by_index { (x : ℕ) → get_or notes.old x 0 ≡ 0 }
         ensures { StepsNoted (held self.now.corners.now self.now.count) a notes.old notes.new }
     {
-        for i in 0..self.count {
-            note_step(triangle_at(self.corners, i), a, notes);
+        let Triangles { corners, count } = *self;
+        for i in 0..count {
+            note_step(triangle_at(corners, i), a, notes);
         }
     }
 
@@ -367,10 +370,11 @@ impl Triangles<'_> {
         requires by_index { (x : ℕ) → get_or notes.old x 0 ≡ 0 }
         ensures { Surveyed (held self.now.corners.now self.now.count) (take self.now.count labels.now) a b result notes.new }
     {
+        let Triangles { corners, count } = *self;
         let mut kept = [false; 8];
         let mut removed = [false; 8];
-        for i in 0..self.count {
-            let t = triangle_at(self.corners, i);
+        for i in 0..count {
+            let t = triangle_at(corners, i);
             flag_label(&mut kept, t, labels[i], a);
             flag_and_note(&mut removed, notes, t, labels[i], b);
         }
@@ -382,8 +386,9 @@ impl Triangles<'_> {
         requires { Listed self.now.corners.now self.now.count (length notes.now) }
         ensures { result ≡ every (λ (s : Step). apart_by notes.now c d s.from) (around (held self.now.corners.now self.now.count) a) }
     {
-        for i in 0..self.count {
-            if !apart_in(notes, triangle_at(self.corners, i), a, c, d) {
+        let Triangles { corners, count } = *self;
+        for i in 0..count {
+            if !apart_in(notes, triangle_at(corners, i), a, c, d) {
                 return false;
             }
         }
