@@ -59,12 +59,16 @@ fn decided(mut x: u64, numbers: u64, by: Way) -> u64 {
     count
 }
 
+// Each count is printed as soon as it is known: a row takes a while.
 fn print_row(rt: &impl Print, x: u64, numbers: u64) -> io::Result<()> {
     let guess = decided(x, numbers, Way::Guess);
+    print!(rt; "{guess} ")?;
     let above = decided(x, numbers, Way::Above);
+    print!(rt; "{above} ")?;
     let below = decided(x, numbers, Way::Below);
+    print!(rt; "{below} ")?;
     let digits = decided(x, numbers, Way::Digits);
-    println!(rt; "{guess} {above} {below} {digits}")
+    println!(rt; "{digits}")
 }
 
 fn main(rt: HostRuntime) -> io::Result<()> {

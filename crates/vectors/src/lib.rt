@@ -301,7 +301,6 @@ fn vector<P: Program>(text: &[u8], k: usize) -> Option<Replayed>
     let mut corners = [0u32; 96];
     let mut labels = [0u8; 32];
     let mut work = [0u32; 2048];
-    lend(&mut work);
     let p = read(text, k, &mut points)?;
     let c = read(text, p.next, &mut corners)?;
     let l = read(text, c.next, &mut labels)?;
@@ -309,6 +308,7 @@ fn vector<P: Program>(text: &[u8], k: usize) -> Option<Replayed>
     if w > 2048 {
         return None;
     }
+    lend(&mut work[..w]);
     P::run(
         text,
         l.next + 1,
