@@ -63,6 +63,6 @@ pub fn convert(text: &[u8], asked: u32, written: &mut [u8]) -> Result<usize, Ref
     let n = found.counts.points;
     let m = found.counts.triangles;
     let same = turn_all(found.edition, edition, n * 3, &mut coordinates);
-    let count = writing::text(edition, n, m, &coordinates, &corners, &labels, written);
+    let count = writing::text(asked, n, m, &coordinates, &corners, &labels, written);
     writing::settled(same, count, written)
 }

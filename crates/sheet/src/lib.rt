@@ -3,6 +3,7 @@
 #![tactic(auto)]
 
 ghost use Rattle.std.specs.Prelude.{◌≡◌, ◌+◌, ◌*◌, ◌≤◌, ◌<◌, ◌^◌, length};
+ghost use Rattle.sheet.specs.Edition as Editions;
 ghost use Rattle.sheet.specs.Edition.{edition_number, rules_of, NamesEdition};
 ghost use Rattle.sheet.specs.Refusals.{refusal_number};
 ghost use Rattle.sheet.specs.Stages.{word_is, number_is, coordinate_is, point_is, points_is, triangle_is, triangles_is, head_is, sheet_is, TellsEdition, found_is};
@@ -35,6 +36,16 @@ pub enum Edition {
 }
 
 impl Edition {
+    // The edition with that number, and the first where no edition has it. (`try_from` refuses such a number.)
+    pub fn of(number: u32) -> Self
+        ensures { rules_of result ≡ Editions.edition number }
+    {
+        match number {
+            2 => Edition::Second,
+            _ => Edition::First,
+        }
+    }
+
     // Coordinates are whole numbers of 1/unit.
     pub fn unit(self) -> u32
         ensures { result ≡ (rules_of self).unit }

@@ -6,6 +6,7 @@ ghost use Rattle.std.specs.Prelude.{◌≡◌, [], ◌∷◌, ◌+◌, ◌*◌, 
 ghost use Rattle.surface.specs.Check.{every};
 ghost use Rattle.sheet.specs.Text as Text;
 ghost use Rattle.sheet.specs.Text.{lines};
+ghost use Rattle.sheet.specs.Edition as Editions;
 ghost use Rattle.sheet.specs.Edition.{rules_of};
 ghost use Rattle.sheet.specs.Sheet as Sheet;
 ghost use Rattle.sheet.specs.Sheet.{point_line, triangle_line};
@@ -140,9 +141,9 @@ fn digit(d: u32) -> u8
     b'0' + d as u8
 }
 
-// Writes the text of the sheet of the first n points and m triangles, and answers how long it is.
+// Writes the text of the sheet of the first n points and m triangles, and answers how long it is. A number that no edition has stands for the first.
 pub fn text(
-    edition: Edition,
+    number: u32,
     n: usize,
     m: usize,
     coordinates: &[i32],
@@ -151,10 +152,10 @@ pub fn text(
     written: &mut [u8],
 ) -> usize
     requires { (n ≤ 128) × (m ≤ 256) × (n * 3 ≤ length coordinates.now) × (m * 3 ≤ length corners.now) × (m ≤ length labels.now) }
-    ensures { Put (Sheet.text (rules_of edition) (sheet_front n m coordinates.now corners.now labels.now)) (2 ^ 20) written.old written.new 0 result }
+    ensures { Put (Sheet.text (Editions.edition number) (sheet_front n m coordinates.now corners.now labels.now)) (2 ^ 20) written.old written.new 0 result }
 {
     let mut writer = Writer { written, at: 0 };
-    writer.head(edition, n as u32, m as u32);
+    writer.head(Edition::of(number), n as u32, m as u32);
     writer.all_points(coordinates, n);
     writer.word(b"a b c label\n");
     writer.all_triangles(corners, labels, m);
@@ -221,6 +222,6 @@ pub fn write(
     if !within(coordinates, edition.most()) {
         return Err(Refusal::NoSheet);
     }
-    let count = text(edition, n, m, coordinates, corners, labels, written);
+    let count = text(number, n, m, coordinates, corners, labels, written);
     settled(true, count, written)
 }

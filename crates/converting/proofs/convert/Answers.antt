@@ -1,10 +1,8 @@
 -- `converting::convert` meets its contract. Assumes nothing.
-use Rattle.std.proofs.Common.{rules, arith, ◌≡◌, subst, ℕ, Err}
-use Rattle.sheet.specs.Edition.{edition_number}
+use Rattle.std.proofs.Common.{rules, arith, ◌≡◌, subst, Err}
+use Rattle.sheet.specs.Edition.{IsEdition}
 use Rattle.sheet.specs.declared.Refusal.TheVariants.{NoSheet}
 use Rattle.sheet.proofs.Editions.{is_edition}
-use Rattle.writing.specs.Written.{Leaves}
-use Rattle.converting.specs.Converting.{conversion}
 use Rattle.sheet.specs.Contents.{contents}
 use Rattle.sheet.proofs.Finding.{nothing_said, is_found, few-points, few-triangles}
 use Rattle.writing.proofs.Settling.{leaves}
@@ -39,6 +37,6 @@ pub returns : goal.returns
 returns c =
     let f = is_found _ _ _ _ _ _ _ _ c.read_whole.ensures _ c.in-Some.is in
     let e = c.in_ok-edition.ensures in
-    let left = leaves-conversion _ _ (edition_number c.in_ok-edition.edition) _ _ _ _ _ _ _ _ f _ _ c.turn_all-same.ensures (is_edition c.in_ok-edition.edition) _ _ _
-    (leaves _ _ _ _ _ _ (c.fill.ensures.after (λ y e. e)) c.text-count.ensures _ _ _ c.settled.ensures) in
-    subst (λ (n : ℕ). Leaves (conversion (contents c.args.text.now) n) c.args.written.now c.settled.new.written c.settled.result) e left
+    let turned = rw e at c.turn_all-same.ensures in
+    leaves-conversion _ _ c.args.asked _ _ _ _ _ _ _ _ f _ _ turned (subst IsEdition e (is_edition c.in_ok-edition.edition)) _ _ _
+    (leaves _ _ _ _ _ _ (c.fill.ensures.after (λ y e. e)) c.text-count.ensures _ _ _ c.settled.ensures)

@@ -1,11 +1,8 @@
 -- `writing::write` meets its contract. Assumes nothing.
-use Rattle.std.proofs.Common.{rules, arith, ◌≡◌, ◌∙◌, sym, subst, ℕ, Err}
-use Rattle.sheet.specs.Edition.{edition, IsEdition}
-use Rattle.sheet.specs.Sheet.{text}
+use Rattle.std.proofs.Common.{rules, arith, ◌≡◌, ◌∙◌, sym, subst, Err}
+use Rattle.sheet.specs.Edition.{IsEdition}
 use Rattle.sheet.specs.declared.Refusal.TheVariants.{NoSheet}
 use Rattle.sheet.proofs.Editions.{is_edition}
-use Rattle.writing.specs.Lists.{list_sheet}
-use Rattle.writing.specs.Written.{written, Leaves}
 use Rattle.writing.proofs.Settling.{leaves}
 use Rattle.writing.proofs.Verdicts.{passed, in_its_range, not_near, leaves_16, leaves-text}
 use Rattle.writing.proofs.write.Goals as goal
@@ -36,6 +33,4 @@ returns c =
     let e = c.in_ok-edition.ensures in
     let near = in_its_range c.args.number c.args.coordinates.now c.in_ok-edition.edition e c.most.ensures ∙ sym c.within.ensures ∙ c.if-not-within.false in
     let all = passed _ _ _ _ (subst IsEdition e (is_edition c.in_ok-edition.edition)) c.if-n-coordinates.false c.if-n-gt128.false c.if-m-gt256.false c.if-corners-m.false near in
-    leaves-text _ _ _ _ _ _ _ all
-    (subst (λ (n : ℕ). Leaves (written (text (edition n) (list_sheet c.args.coordinates.now c.args.corners.now c.args.labels.now))) c.args.written.now c.settled.new.written c.settled.result) e
-    (leaves _ _ _ _ _ _ (c.fill.ensures.after (λ y e. e)) c.text-count.ensures _ _ _ c.settled.ensures))
+    leaves-text _ _ _ _ _ _ _ all (leaves _ _ _ _ _ _ (c.fill.ensures.after (λ y e. e)) c.text-count.ensures _ _ _ c.settled.ensures)
