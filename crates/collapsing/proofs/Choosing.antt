@@ -97,6 +97,21 @@ module _ (ps qs : List Float) (ns c ls : List ℕ) (p r : ℕ) (w : List ℕ) (h
             places = λ i l. let z = place-low i l in let u = stays (sides_from c p + i) (omega arith) in omega arith;
           }
 
+      -- whatever was picked can be sorted
+      pub choose_sortable : (test : ℕ → Bool) (w₃ : List ℕ) (x : ℕ) → length w₃ ≡ length w₂ → Picked test w₂ w₃ r (items_from c p) x → SortAsks w₃ (keys_from c p) r (items_from c p) (spare_from c p) x
+      choose_sortable test w₃ x e₃ k =
+          let room = h.room in
+          let half = n.half in
+          let few = k.few in
+          record {
+            keyed = omega arith;
+            items_in = omega arith;
+            spare_in = omega arith;
+            apart = inl (omega arith);
+            keys_items = inl (omega arith);
+            keys_spare = inl (omega arith);
+          }
+
       module _ (w₃ : List ℕ) (x : ℕ) (e₃ : length w₃ ≡ length w₂)
           (k : Picked (λ (i : ℕ). picks ps c (p * 3 + length c) (weak_from c p) (times short_part (Ieee.div binary64 sum (counted r))) w₂ (at w₂ (sides_from c p + i))) w₂ w₃ r (items_from c p) x) where
         limit-same : most ≡ limit ps (rising (triangles c) p)

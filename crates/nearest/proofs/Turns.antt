@@ -35,32 +35,37 @@ kept-closer (found w m) (Some c) k v n d i =
     go true p = subst (λ (t : Bool). BestKept (cond t (found v n) (found w m)) (Some c)) (sym (le-ltb n m (leb-true m n p))) k
     go false p = subst (λ (t : Bool). BestKept (cond t (found v n) (found w m)) (Some (record { corner = v; distance = d }))) (sym (lt-ltb n m (leb-false m n p))) (record { named = refl; far = i })
 
+-- ---- a place of a list that is set or not
+
+module _ {A : Type 0} (l : List A) (i : ℕ) (x d : A) where
+  set_here : (b : Bool) → i < length l → get_or (cond b l (set l i x)) i d ≡ cond b (get_or l i d) x
+  set_here true h = refl
+  set_here false h = get_or-set_same l i x d h
+
+  set_there : (b : Bool) (j : ℕ) → (j ≡ i → ⊥) → get_or (cond b l (set l i x)) j d ≡ get_or l j d
+  set_there true j n = refl
+  set_there false j n = get_or-set_other l i j x d n
+
+  set_long : (b : Bool) → length (cond b l (set l i x)) ≡ length l
+  set_long true = refl
+  set_long false = length-set l i x
+
 -- ---- the place of a probe, and the others
 
 module _ (bests : List (Option Candidate)) (i v : ℕ) (d : Float) where
   here-considered : (o : Option Candidate) → get_or bests i None ≡ o → i < length bests → get_or (considered o v d i bests) i None ≡ closer_of o v d
   here-considered None e h = get_or-set_same bests i _ None h
-  here-considered (Some c) e h = go (le c.distance d)
-    where
-      go : (t : Bool) → get_or (cond t bests (set bests i (Some (record { corner = v; distance = d })))) i None ≡ cond t (Some c) (Some (record { corner = v; distance = d }))
-      go true = e
-      go false = get_or-set_same bests i _ None h
+  here-considered (Some c) e h =
+      set_here bests i (Some (record { corner = v; distance = d })) None (le c.distance d) h
+      ∙ ap (λ (o : Option Candidate). cond (le c.distance d) o (Some (record { corner = v; distance = d }))) e
 
   there-considered : (o : Option Candidate) (j : ℕ) → (j ≡ i → ⊥) → get_or (considered o v d i bests) j None ≡ get_or bests j None
   there-considered None j n = get_or-set_other bests i j _ None n
-  there-considered (Some c) j n = go (le c.distance d)
-    where
-      go : (t : Bool) → get_or (cond t bests (set bests i (Some (record { corner = v; distance = d })))) j None ≡ get_or bests j None
-      go true = refl
-      go false = get_or-set_other bests i j _ None n
+  there-considered (Some c) j n = set_there bests i _ None (le c.distance d) j n
 
   considered-long : (o : Option Candidate) → length (considered o v d i bests) ≡ length bests
   considered-long None = length-set bests i _
-  considered-long (Some c) = go (le c.distance d)
-    where
-      go : (t : Bool) → length (cond t bests (set bests i (Some (record { corner = v; distance = d })))) ≡ length bests
-      go true = refl
-      go false = length-set bests i _
+  considered-long (Some c) = set_long bests i _ None (le c.distance d)
 
 -- ---- each probe in turn
 

@@ -7,11 +7,11 @@ use mathlib.Core.List.{List, [], ◌∷◌}
 use native.Mathlib.Numerals.{add-one}
 use native.Mathlib.Omega.{arith}
 use lib.Dec.{eqb, leb, ltb}
-use lib.ListN.{length, get_or}
+use lib.ListN.{length, get_or, drop}
 use borrow.Author.Tests.{eqb-true, leb-true, ltb-true, eq-eqb, ne_eqb, le-leb, lt-leb, lt-ltb}
 use Rattle.std.specs.List.{IsAllAdjacentAnswer}
 use Rattle.surface.proofs.Bools.{both, join}
-use Rattle.surface.proofs.All.{all-at, at_all}
+use Rattle.surface.proofs.All.{all-at, at_all, all-on}
 use Rattle.price.specs.Tariff.{rises, rising?, capped?, tariff?, Tariff}
 
 -- ---- rising, place by place
@@ -111,3 +111,8 @@ rising-all us false (k, i, h) = go (rising? us) refl
     go : (b : Bool) → rising? us ≡ b → false ≡ rising? us
     go true e = absurd (false≢true (h 0 ∙ lt-ltb _ _ (rising-at us e k i)))
     go false e = sym e
+
+-- ---- a capped price more
+
+pub capped-on : (ps : List ℕ) (k : ℕ) → k < length ps → get_or ps k 0 ≤ 100000 → capped? (drop k ps) ≡ capped? (drop (k + 1) ps)
+capped-on ps k h l = all-on cap? 0 ps k h (le-leb (get_or ps k 0) 100000 l)
