@@ -59,7 +59,7 @@ pub fn lanovishel_check(
         }
         Err(why) => {
             *numbers = [0.0, 0.0];
-            refused(why, place)
+            refused(why, place) // 0 0 but for a finding
         }
     }
 }

@@ -48,6 +48,7 @@ fn onto(t: f64, level: f64, v: f64) -> f64
 }
 
 // First onto the lower level, then onto the upper one.
+#[tactic(auto, unfolding(crate::specs::Values::onto))]
 fn onto_both(t: f64, lower: f64, upper: f64, v: f64) -> f64
     ensures { result ≡ Values.onto_both t lower upper v }
 {
