@@ -46,6 +46,16 @@ impl Edition {
         }
     }
 
+    // Its number.
+    pub fn number(self) -> u32
+        ensures { result ≡ edition_number self }
+    {
+        match self {
+            Edition::First => 1,
+            Edition::Second => 2,
+        }
+    }
+
     // Coordinates are whole numbers of 1/unit.
     pub fn unit(self) -> u32
         ensures { result ≡ (rules_of self).unit }
